@@ -1,0 +1,9 @@
+pub mod Alone
+pub mod Meant
+pub mod Chosen
+pub mod Packed
+pub mod Rule
+pub mod Trip
+pub mod Canonical
+pub mod Single
+pub mod Computed

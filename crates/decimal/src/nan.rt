@@ -1,0 +1,34 @@
+// What a NaN carries, made from its parts, and its parts read.
+ghost use mathlib.Core.Path.{_≡_};
+ghost use Rattle.decimal.specs.Numbers.{nan-made, nan-seen};
+use crate::number::Nan;
+use crate::number::Sign;
+use crate::refusal::Fault;
+use crate::refusal::Refusal;
+
+impl Nan {
+    /// What a NaN of this sign and payload carries. Refuses a payload above 999,999.
+    pub fn new(sign: Sign, payload: u32) -> Result<Nan, Fault>
+        ensures { λ r. ⌜ nan-seen r ≡ nan-made sign payload ⌝ }
+    {
+        if payload > 999_999 {
+            return Err(Fault {
+                refusal: Refusal::CoefficientTooLarge,
+                place: 0,
+            });
+        }
+        Ok(Nan { sign, payload })
+    }
+
+    pub fn sign(&self) -> Sign
+        ensures { λ r. ⌜ r ≡ now (self .entry) .sign ⌝ }
+    {
+        self.sign
+    }
+
+    pub fn payload(&self) -> u32
+        ensures { λ r. ⌜ r ≡ now (self .entry) .payload ⌝ }
+    {
+        self.payload
+    }
+}
