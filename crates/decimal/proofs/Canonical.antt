@@ -13,8 +13,8 @@ use Rattle.std.proofs.shelf.Signed.{ints}
 use Rattle.std.proofs.shelf.Ways.{tells}
 use Rattle.std.proofs.shelf.Tests.{lt-ltb, le-ltb, ltb-true, ltb-false, eqb-true, eqb-false, eq-eqb, and-parts, and-from, or-cases, or-right, cases-bool, cond-true, cond-false, both-ways}
 use Rattle.std.proofs.shelf.Bits.{div-mul-add, mod-mul-add, div-below, mod-below, div-add-mod'}
-use Rattle.decimal.specs.declared.number.Sign.{Sign}
-use Rattle.decimal.specs.declared.number.Sign.the-variants.{Plus, Minus}
+use Rattle.rounding.specs.declared.sign.Sign.{Sign}
+use Rattle.rounding.specs.declared.sign.Sign.the-variants.{Plus, Minus}
 use Rattle.decimal.specs.Declets.{declet-value, declet-of, canonical-declet}
 use Rattle.decimal.specs.Numbers.{Datum, finite, infinite, quiet, signalling}
 use Rattle.decimal.specs.Words.{Format, In-format, declets-value, declets-of, canonical-declets, sign-of, sign-bit, exponent-lead, leading-digit, combination-of, signalling-bit, sign-field, combination-field, continuation-field, declets-field, number-of-fields, number-of, word-of-fields, finite-word, word-of, canonical-fields, canonical, word-count}

@@ -1,6 +1,3 @@
-pub mod Alone
-pub mod Meant
-pub mod Chosen
 pub mod Packed
 pub mod Rule
 pub mod Trip

@@ -1,9 +1,4 @@
-pub mod Refusals
-pub mod Flags
 pub mod Numbers
-pub mod Modes
-pub mod Rounding
 pub mod Declets
 pub mod Words
-pub mod Texts
 pub mod Worked

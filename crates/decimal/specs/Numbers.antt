@@ -7,14 +7,14 @@ use lib.Signed.{ltZ}
 use Rattle.std.specs.Results.{mapped}
 use Rattle.std.specs.declared.result.Result.{Result}
 use Rattle.std.specs.declared.result.Result.the-variants.{Ok, Err}
-use Rattle.decimal.specs.declared.number.Sign.{Sign}
+use Rattle.rounding.specs.declared.sign.Sign.{Sign}
 use Rattle.decimal.specs.declared.number.Finite.{Finite}
 use Rattle.decimal.specs.declared.number.Nan.{Nan}
 use Rattle.decimal.specs.declared.number.Number.{Number}
 use Rattle.decimal.specs.declared.number.Number.the-variants.{Finite as FiniteNumber, Infinite, QuietNan, SignallingNan}
-use Rattle.decimal.specs.declared.refusal.Fault.{Fault}
-use Rattle.decimal.specs.declared.refusal.Refusal.the-variants.{CoefficientTooLarge, ExponentOutOfRange}
-use Rattle.decimal.specs.Refusals.{at-no-place}
+use Rattle.refusals.specs.declared.Fault.{Fault}
+use Rattle.refusals.specs.declared.Refusal.the-variants.{CoefficientTooLarge, ExponentOutOfRange}
+use Rattle.refusals.specs.Refusals.{at-no-place}
 
 -- a number of any decimal format: sign, coefficient and exponent; an infinity; a NaN with its payload
 pub data Datum : Type 0 where

@@ -5,8 +5,8 @@ use mathlib.Core.Bool.{Bool, true, cond, _&&_, _||_}
 use lib.Dec.{ltb, eqb}
 use lib.IntN.{ℤ, pos, natAbs, _+ℤ_, _-ℤ_}
 use lib.Signed.{_≤ℤ_, _<ℤ_}
-use Rattle.decimal.specs.declared.number.Sign.{Sign}
-use Rattle.decimal.specs.declared.number.Sign.the-variants.{Plus, Minus}
+use Rattle.rounding.specs.declared.sign.Sign.{Sign}
+use Rattle.rounding.specs.declared.sign.Sign.the-variants.{Plus, Minus}
 use Rattle.decimal.specs.Numbers.{Datum, finite, infinite, quiet, signalling}
 use Rattle.decimal.specs.Declets.{declet-value, declet-of, canonical-declet}
 

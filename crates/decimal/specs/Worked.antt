@@ -4,7 +4,7 @@ use mathlib.Core.Bool.{true, false}
 use mathlib.Core.List.{List, [], _∷_}
 use Prim.Native.Nat.{ℕ}
 use lib.IntN.{pos, negsuc}
-use Rattle.decimal.specs.declared.number.Sign.the-variants.{Plus, Minus}
+use Rattle.rounding.specs.declared.sign.Sign.the-variants.{Plus, Minus}
 use Rattle.decimal.specs.Declets.{declet-value, declet-of}
 use Rattle.decimal.specs.Numbers.{finite, infinite, quiet, signalling}
 use Rattle.decimal.specs.Words.{decimal32, number-of, word-of, canonical}

@@ -2,9 +2,9 @@
 ghost use mathlib.Core.Path.{_≡_};
 ghost use Rattle.decimal.specs.Numbers.{finite-made, finite-seen};
 use crate::number::Finite;
-use crate::number::Sign;
-use crate::refusal::Fault;
-use crate::refusal::Refusal;
+use refusals::Fault;
+use refusals::Refusal;
+use rounding::Sign;
 
 impl Finite {
     /// The finite number of these parts. Refuses a coefficient above 9,999,999, then an exponent outside -101 to 90.
@@ -28,23 +28,5 @@ impl Finite {
             coefficient,
             exponent,
         })
-    }
-
-    pub fn sign(&self) -> Sign
-        ensures { λ r. ⌜ r ≡ now (self .entry) .sign ⌝ }
-    {
-        self.sign
-    }
-
-    pub fn coefficient(&self) -> u32
-        ensures { λ r. ⌜ r ≡ now (self .entry) .coefficient ⌝ }
-    {
-        self.coefficient
-    }
-
-    pub fn exponent(&self) -> i32
-        ensures { λ r. ⌜ r ≡ now (self .entry) .exponent ⌝ }
-    {
-        self.exponent
     }
 }

@@ -1,30 +1,17 @@
 // Decimal32 numbers and words: the lowest layer.
 mod declet;
-mod display;
 mod finite;
-mod flags;
-mod mode;
 mod nan;
 mod number;
-mod refusal;
 mod tables;
 mod words;
 mod worked;
 
 pub use declet::read_declet;
 pub use declet::write_declet;
-pub use display::NumberDisplay;
-pub use display::SignDisplay;
-pub use flags::Flags;
-pub use mode::Mode;
-pub use mode::Position;
 pub use number::Finite;
 pub use number::Nan;
 pub use number::Number;
-pub use number::Sign;
-pub use refusal::Fault;
-pub use refusal::Layer;
-pub use refusal::Refusal;
 pub use words::canonical_word;
 pub use words::read_word;
 pub use words::write_word;

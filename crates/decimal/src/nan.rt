@@ -2,9 +2,9 @@
 ghost use mathlib.Core.Path.{_≡_};
 ghost use Rattle.decimal.specs.Numbers.{nan-made, nan-seen};
 use crate::number::Nan;
-use crate::number::Sign;
-use crate::refusal::Fault;
-use crate::refusal::Refusal;
+use refusals::Fault;
+use refusals::Refusal;
+use rounding::Sign;
 
 impl Nan {
     /// What a NaN of this sign and payload carries. Refuses a payload above 999,999.
@@ -18,17 +18,5 @@ impl Nan {
             });
         }
         Ok(Nan { sign, payload })
-    }
-
-    pub fn sign(&self) -> Sign
-        ensures { λ r. ⌜ r ≡ now (self .entry) .sign ⌝ }
-    {
-        self.sign
-    }
-
-    pub fn payload(&self) -> u32
-        ensures { λ r. ⌜ r ≡ now (self .entry) .payload ⌝ }
-    {
-        self.payload
     }
 }

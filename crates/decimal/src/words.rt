@@ -9,7 +9,7 @@ use crate::declet::write_declet;
 use crate::number::Finite;
 use crate::number::Nan;
 use crate::number::Number;
-use crate::number::Sign;
+use rounding::Sign;
 
 // The sign of a word, its first bit.
 fn read_sign(word: u32) -> Sign

@@ -3,8 +3,8 @@ ghost use mathlib.Core.Path.{_≡_};
 ghost use Rattle.decimal.specs.Worked.{Worked-words, worked-words};
 use crate::number::Finite;
 use crate::number::Number;
-use crate::number::Sign;
 use crate::words::write_word;
+use rounding::Sign;
 
 /// The words of 1E0, 9999999E90 and -125E-3. The definitions give the same by computation, with more lines of that kind.
 pub fn worked_lines() -> [u32; 3]

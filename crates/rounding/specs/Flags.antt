@@ -1,7 +1,7 @@
 -- The exception flags. Assumes nothing.
 use mathlib.Core.Bool.{Bool, true, false, cond, _||_}
 use Prim.Native.Nat.{ℕ, _+_}
-use Rattle.decimal.specs.declared.flags.Flags.{Flags}
+use Rattle.rounding.specs.declared.flags.Flags.{Flags}
 
 abbrev pub no-flags : Flags
 no-flags = record { inexact = false; underflow = false; overflow = false; «division_by_zero» = false; invalid = false }

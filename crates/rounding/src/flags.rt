@@ -1,9 +1,9 @@
 // The exception flags of IEEE 754.
 ghost use mathlib.Core.Path.{_≡_};
-ghost use Rattle.decimal.specs.Flags.{no-flags, raised-by-either, flags-number};
+ghost use Rattle.rounding.specs.Flags.{no-flags, raised-by-either, flags-number};
 
 /// Which exceptions an operation raised, or which stand raised.
-#[derive(Clone, Copy, PartialEq, Debug)]
+#[derive(Clone, Copy)]
 pub struct Flags {
     pub inexact: bool,
     pub underflow: bool,

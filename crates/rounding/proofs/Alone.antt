@@ -11,9 +11,9 @@ use borrow.Author.Differences.{up, down, sum-is, product-is, same-in}
 use Rattle.std.proofs.shelf.Signed.{ints}
 use Rattle.std.proofs.shelf.Tests.{cases-lt}
 use Rattle.std.specs.Orderings.{When}
-use Rattle.decimal.specs.declared.mode.Mode.{Mode}
-use Rattle.decimal.specs.declared.mode.Mode.the-variants.{NearestEven, NearestZero, NearestAway, Ceiling, Floor, TowardZero, AwayFromZero}
-use Rattle.decimal.specs.Modes.{Under, Over, Closest, Rounds}
+use Rattle.rounding.specs.declared.mode.Mode.{Mode}
+use Rattle.rounding.specs.declared.mode.Mode.the-variants.{NearestEven, NearestZero, NearestAway, Ceiling, Floor, TowardZero, AwayFromZero}
+use Rattle.rounding.specs.Modes.{Under, Over, Closest, Rounds}
 
 -- z and w compared, as naturals
 abbrev left : ℤ → ℤ → ℕ

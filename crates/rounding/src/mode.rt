@@ -1,14 +1,14 @@
 // The seven rounding modes.
 ghost use mathlib.Core.Path.{_≡_};
-ghost use Rattle.decimal.specs.Modes.{mode-numbered, Rounds-so};
-ghost use Rattle.decimal.specs.Rounding.{goes-up, past-middle, is-whole};
-use crate::number::Sign;
-use crate::refusal::Fault;
-use crate::refusal::Refusal;
+ghost use Rattle.rounding.specs.Modes.{mode-numbered, Rounds-so};
+ghost use Rattle.rounding.specs.Rounding.{goes-up, past-middle, is-whole};
+use crate::sign::Sign;
+use refusals::Fault;
+use refusals::Refusal;
 
 /// How a value between two neighbours is rounded: to the nearer one, which three modes do with three rules for a
 /// tie, or to one side.
-#[derive(Clone, Copy, PartialEq, Debug)]
+#[derive(Clone, Copy)]
 pub enum Mode {
     NearestEven,
     NearestZero,
@@ -20,7 +20,7 @@ pub enum Mode {
 }
 
 /// Where a magnitude lies between the whole number under it and the next.
-#[derive(Clone, Copy, PartialEq, Debug)]
+#[derive(Clone, Copy)]
 pub enum Position {
     Whole,
     Below,

@@ -2,12 +2,12 @@
 use mathlib.Core.Bool.{Bool, true, false, cond, not}
 use Prim.Native.Nat.{ℕ, _+_, _*_, _/_, _%_}
 use lib.Dec.{eqb, ltb}
-use Rattle.decimal.specs.declared.number.Sign.{Sign}
-use Rattle.decimal.specs.declared.number.Sign.the-variants.{Plus, Minus}
-use Rattle.decimal.specs.declared.mode.Mode.{Mode}
-use Rattle.decimal.specs.declared.mode.Mode.the-variants.{NearestEven, NearestZero, NearestAway, Ceiling, Floor, TowardZero, AwayFromZero}
-use Rattle.decimal.specs.declared.mode.Position.{Position}
-use Rattle.decimal.specs.declared.mode.Position.the-variants.{Whole, Below, Middle, Above}
+use Rattle.rounding.specs.declared.sign.Sign.{Sign}
+use Rattle.rounding.specs.declared.sign.Sign.the-variants.{Plus, Minus}
+use Rattle.rounding.specs.declared.mode.Mode.{Mode}
+use Rattle.rounding.specs.declared.mode.Mode.the-variants.{NearestEven, NearestZero, NearestAway, Ceiling, Floor, TowardZero, AwayFromZero}
+use Rattle.rounding.specs.declared.mode.Position.{Position}
+use Rattle.rounding.specs.declared.mode.Position.the-variants.{Whole, Below, Middle, Above}
 
 -- where a rest r of m parts lies
 abbrev pub placed : ℕ → ℕ → Position

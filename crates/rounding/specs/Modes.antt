@@ -9,14 +9,14 @@ use lib.Signed.{_≤ℤ_, _<ℤ_, ltZ}
 use Rattle.std.specs.Orderings.{When}
 use Rattle.std.specs.declared.result.Result.{Result}
 use Rattle.std.specs.declared.result.Result.the-variants.{Ok, Err}
-use Rattle.decimal.specs.declared.number.Sign.{Sign}
-use Rattle.decimal.specs.declared.mode.Mode.{Mode}
-use Rattle.decimal.specs.declared.mode.Mode.the-variants.{NearestEven, NearestZero, NearestAway, Ceiling, Floor, TowardZero, AwayFromZero}
-use Rattle.decimal.specs.declared.mode.Position.{Position}
-use Rattle.decimal.specs.declared.refusal.Fault.{Fault}
-use Rattle.decimal.specs.declared.refusal.Refusal.the-variants.{UnknownMode}
-use Rattle.decimal.specs.Refusals.{at-no-place}
-use Rattle.decimal.specs.Rounding.{by-sign, position, is-odd, raised}
+use Rattle.rounding.specs.declared.sign.Sign.{Sign}
+use Rattle.rounding.specs.declared.mode.Mode.{Mode}
+use Rattle.rounding.specs.declared.mode.Mode.the-variants.{NearestEven, NearestZero, NearestAway, Ceiling, Floor, TowardZero, AwayFromZero}
+use Rattle.rounding.specs.declared.mode.Position.{Position}
+use Rattle.refusals.specs.declared.Fault.{Fault}
+use Rattle.refusals.specs.declared.Refusal.the-variants.{UnknownMode}
+use Rattle.refusals.specs.Refusals.{at-no-place}
+use Rattle.rounding.specs.Rounding.{by-sign, position, is-odd, raised}
 
 -- the modes by their numbers
 abbrev pub mode-numbered : ℕ → Result Mode Fault

@@ -1,9 +1,9 @@
 // Every way in which a call can be refused, and the fault that tells of it.
 ghost use mathlib.Core.Path.{_≡_};
-ghost use Rattle.decimal.specs.Refusals.{refusal-number, refusal-layer, layer-number};
+ghost use Rattle.refusals.specs.Refusals.{refusal-number, refusal-layer, layer-number};
 
 /// The part of the program that a refusal belongs to, whichever call tells of it.
-#[derive(Clone, Copy, PartialEq, Debug)]
+#[derive(Clone, Copy)]
 pub enum Layer {
     Numbers,
     Source,
@@ -13,7 +13,7 @@ pub enum Layer {
 }
 
 /// Why a call was refused. Where several reasons hold at once, the first of this list is told.
-#[derive(Clone, Copy, PartialEq, Debug)]
+#[derive(Clone, Copy)]
 pub enum Refusal {
     SheetTooLong,
     AnswerSpaceShort,
@@ -34,7 +34,7 @@ pub enum Refusal {
 }
 
 /// A refusal and its place: a record's index in a run, a column on a sheet, and 0 elsewhere.
-#[derive(Clone, Copy, PartialEq, Debug)]
+#[derive(Clone, Copy)]
 pub struct Fault {
     pub refusal: Refusal,
     pub place: usize,

@@ -1,10 +1,10 @@
 -- The sixteen refusals: the number and the layer of each. Assumes nothing.
 use Prim.Native.Nat.{ℕ}
-use Rattle.decimal.specs.declared.refusal.Layer.{Layer}
-use Rattle.decimal.specs.declared.refusal.Layer.the-variants.{Numbers, Source, Divider, Card, Sheet}
-use Rattle.decimal.specs.declared.refusal.Refusal.{Refusal}
-use Rattle.decimal.specs.declared.refusal.Refusal.the-variants.{SheetTooLong, AnswerSpaceShort, LineLength, UnknownLetter, NotANumber, CoefficientTooLarge, ExponentOutOfRange, RoundOutOfRange, UnknownMode, UnknownStep, ClaimUnderNine, DivisorNotSevenDigits, OperandNotFinite, ZeroDivisor, CardFull, QuotientTooLarge}
-use Rattle.decimal.specs.declared.refusal.Fault.{Fault}
+use Rattle.refusals.specs.declared.Layer.{Layer}
+use Rattle.refusals.specs.declared.Layer.the-variants.{Numbers, Source, Divider, Card, Sheet}
+use Rattle.refusals.specs.declared.Refusal.{Refusal}
+use Rattle.refusals.specs.declared.Refusal.the-variants.{SheetTooLong, AnswerSpaceShort, LineLength, UnknownLetter, NotANumber, CoefficientTooLarge, ExponentOutOfRange, RoundOutOfRange, UnknownMode, UnknownStep, ClaimUnderNine, DivisorNotSevenDigits, OperandNotFinite, ZeroDivisor, CardFull, QuotientTooLarge}
+use Rattle.refusals.specs.declared.Fault.{Fault}
 
 abbrev pub layer-number : Layer → ℕ
 layer-number Numbers = 1

@@ -12,14 +12,14 @@ use borrow.Author.Differences.{product-is}
 use Rattle.std.proofs.shelf.Signed.{ints}
 use Rattle.std.proofs.shelf.Tests.{cases-lt, cases-eq, cases-order, cond-both, cond-true, cond-false, lt-ltb, le-ltb, eq-eqb, ne-eqb, eqb-true, eqb-false}
 use Rattle.std.specs.Orderings.{When}
-use Rattle.decimal.specs.declared.number.Sign.{Sign}
-use Rattle.decimal.specs.declared.number.Sign.the-variants.{Plus, Minus}
-use Rattle.decimal.specs.declared.mode.Mode.{Mode}
-use Rattle.decimal.specs.declared.mode.Mode.the-variants.{NearestEven, NearestZero, NearestAway, Ceiling, Floor, TowardZero, AwayFromZero}
-use Rattle.decimal.specs.declared.mode.Position.{Position}
-use Rattle.decimal.specs.declared.mode.Position.the-variants.{Whole, Below, Middle, Above}
-use Rattle.decimal.specs.Rounding.{placed, position, goes-up, is-odd, raised, rounded}
-use Rattle.decimal.specs.Modes.{signed, Under, Over, Closest, Rounds}
+use Rattle.rounding.specs.declared.sign.Sign.{Sign}
+use Rattle.rounding.specs.declared.sign.Sign.the-variants.{Plus, Minus}
+use Rattle.rounding.specs.declared.mode.Mode.{Mode}
+use Rattle.rounding.specs.declared.mode.Mode.the-variants.{NearestEven, NearestZero, NearestAway, Ceiling, Floor, TowardZero, AwayFromZero}
+use Rattle.rounding.specs.declared.mode.Position.{Position}
+use Rattle.rounding.specs.declared.mode.Position.the-variants.{Whole, Below, Middle, Above}
+use Rattle.rounding.specs.Rounding.{placed, position, goes-up, is-odd, raised, rounded}
+use Rattle.rounding.specs.Modes.{signed, Under, Over, Closest, Rounds}
 
 -- a rest's place, told by two comparisons
 

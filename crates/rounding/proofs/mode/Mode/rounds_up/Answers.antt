@@ -1,7 +1,7 @@
 -- The answer is the definition's, so it is what the mode means and nothing else is.
 -- Assumes nothing.
-use Rattle.decimal.proofs.Chosen.{rounds-so}
-use Rattle.decimal.proofs.mode.Mode.rounds_up.Needs as need
+use Rattle.rounding.proofs.Chosen.{rounds-so}
+use Rattle.rounding.proofs.mode.Mode.rounds_up.Needs as need
 
 pub returns : need.returns
 returns c =

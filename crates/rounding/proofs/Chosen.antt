@@ -3,13 +3,13 @@ use mathlib.Core.Path.{_≡_, ap, subst, sym, _∙_}
 use mathlib.Core.Bool.{Bool}
 use Prim.Native.Nat.{ℕ, _/_}
 use lib.IntN.{ℤ}
-use Rattle.decimal.specs.declared.number.Sign.{Sign}
-use Rattle.decimal.specs.declared.mode.Mode.{Mode}
-use Rattle.decimal.specs.declared.mode.Position.{Position}
-use Rattle.decimal.specs.Rounding.{position, goes-up, raised, rounded}
-use Rattle.decimal.specs.Modes.{signed, Rounds, Lies, Rounds-so}
-use Rattle.decimal.proofs.Meant.{meant}
-use Rattle.decimal.proofs.Alone.{alone}
+use Rattle.rounding.specs.declared.sign.Sign.{Sign}
+use Rattle.rounding.specs.declared.mode.Mode.{Mode}
+use Rattle.rounding.specs.declared.mode.Position.{Position}
+use Rattle.rounding.specs.Rounding.{position, goes-up, raised, rounded}
+use Rattle.rounding.specs.Modes.{signed, Rounds, Lies, Rounds-so}
+use Rattle.rounding.proofs.Meant.{meant}
+use Rattle.rounding.proofs.Alone.{alone}
 
 same : (mode : Mode) (s : Sign) (odd : Bool) (p : Position) (up : Bool) → up ≡ goes-up mode s odd p → (n m : ℕ) → Lies odd p n m
     → rounded mode s n m ≡ raised up (n / m)
