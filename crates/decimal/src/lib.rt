@@ -4,6 +4,8 @@ mod finite;
 mod nan;
 mod number;
 mod tables;
+#[cfg(test)]
+mod tests;
 mod words;
 mod worked;
 

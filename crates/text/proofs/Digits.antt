@@ -1,5 +1,8 @@
 -- Eight hexadecimal digits, read one by one. Assumes nothing.
-use mathlib.Core.Path.{_≡_, refl, ap, sym, _∙_}
+use mathlib.Core.Path.{_≡_, refl, ap, sym, subst, _∙_}
+use Rattle.std.specs.Text.{Ascii, Utf8}
+use Rattle.std.proofs.shelf.Ascii.{ascii-nil, ascii-cons}
+use Rattle.std.proofs.shelf.Text.{utf8-from-ascii}
 use mathlib.Core.List.{List, [], _∷_, _++_}
 use Prim.Native.Nat.{ℕ, zero, suc, _+_, _*_, _/_, _%_, _^_, _<_, _≤_}
 use native.Mathlib.Nat.{pow-suc}
@@ -71,3 +74,14 @@ word-back w h = digits-back 8 0 w ∙ ap Some (omega arith)
 pub eight : {a b c d e f g h a′ b′ c′ d′ e′ f′ g′ h′ : ℕ} → a ≡ a′ → b ≡ b′ → c ≡ c′ → d ≡ d′ → e ≡ e′ → f ≡ f′ → g ≡ g′ → h ≡ h′
     → a ∷ (b ∷ (c ∷ (d ∷ (e ∷ (f ∷ (g ∷ (h ∷ []))))))) ≡ a′ ∷ (b′ ∷ (c′ ∷ (d′ ∷ (e′ ∷ (f′ ∷ (g′ ∷ (h′ ∷ [])))))))
 eight p q r s t u v w = λ i. p i ∷ (q i ∷ (r i ∷ (s i ∷ (t i ∷ (u i ∷ (v i ∷ (w i ∷ [])))))))
+
+-- a word's text is plain ASCII
+digit-ascii : (d : ℕ) → d < 16 → hex-digit d < 128
+digit-ascii d h = grind (arith, tells)
+
+digits-ascii : (k w : ℕ) → Ascii (hex-digits k w)
+digits-ascii zero w = ascii-nil
+digits-ascii (suc k) w = ascii-cons (hex-digit (w / 16 ^ k % 16)) (hex-digits k w) (digit-ascii (w / 16 ^ k % 16) (omega arith)) (digits-ascii k w)
+
+pub word-utf8 : (bs : List ℕ) (w : ℕ) → bs ≡ word-text w → Utf8 bs
+word-utf8 bs w e = subst Utf8 (sym e) (utf8-from-ascii (word-text w) (digits-ascii 8 w))

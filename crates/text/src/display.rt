@@ -48,7 +48,7 @@ pub impl fmt::Display for WordText as WordTextDisplay {
     fn fmt<W: fmt::Write>(&self, f: &mut fmt::Formatter<W>) -> fmt::Result {
         match std::str::from_utf8(&word_digits(self.0)) {
             Ok(digits) => write!(f, "{digits}"),
-            Err(_) => Err(fmt::Error),
+            Err(_) => unreachable(),
         }
     }
 }
