@@ -52,6 +52,10 @@ is-odd c = eqb (c % 2) 1
 abbrev pub raised : Bool → ℕ → ℕ
 raised up c = cond up (c + 1) c
 
+-- what a magnitude at this position above the whole number c is rounded to
+abbrev pub rounded-at : Mode → Sign → ℕ → Position → ℕ
+rounded-at mode s c p = raised (goes-up mode s (is-odd c) p) c
+
 -- the magnitude that n / m, under the sign, is rounded to
 abbrev pub rounded : Mode → Sign → ℕ → ℕ → ℕ
-rounded mode s n m = raised (goes-up mode s (is-odd (n / m)) (position n m)) (n / m)
+rounded mode s n m = rounded-at mode s (n / m) (position n m)

@@ -1,0 +1,4 @@
+pub mod Scaling
+pub mod Bracket
+pub mod Begun
+pub mod Computed

@@ -1,0 +1,4 @@
+pub mod Search
+pub mod Quotients
+pub mod Laws
+pub mod Drafts

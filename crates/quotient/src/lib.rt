@@ -1,0 +1,7 @@
+// The quotient of two numbers of decimal32, known by its first eight digits and whether anything is left, rounded once.
+mod round;
+mod types;
+
+pub use types::Leading;
+pub use types::Magnitude;
+pub use types::Rounded;
