@@ -8,12 +8,14 @@ use Prim.Native.Nat.{ℕ, zero, suc, _+_, _*_, _/_, _%_, _^_, _<_, _≤_}
 use native.Mathlib.Nat.{pow-suc}
 use native.Mathlib.Omega.{arith}
 use lib.Arith.{mod-mul}
+use lib.Dec.{eqb}
 use lib.ListN.{getD, length, drop}
 use lib.Pow.{pow-add, pow-mono}
 use Rattle.std.specs.Iters.{folded}
 use Rattle.std.specs.Options.{mapped}
 use Rattle.std.specs.declared.option.Option.{Option}
 use Rattle.std.specs.declared.option.Option.the-variants.{Some, None}
+use Rattle.std.proofs.shelf.Tests.{cond-false, ne-eqb}
 use Rattle.std.proofs.shelf.Ways.{tells}
 use Rattle.std.proofs.shelf.Lists.{at-drop-more, at-drop-all}
 use Rattle.text.specs.Texts.{hex-digit, hex-digits, hex-value, digit-behind, word-text, word-in}
@@ -85,3 +87,7 @@ digits-ascii (suc k) w = ascii-cons (hex-digit (w / 16 ^ k % 16)) (hex-digits k 
 
 pub word-utf8 : (bs : List ℕ) (w : ℕ) → bs ≡ word-text w → Utf8 bs
 word-utf8 bs w e = subst Utf8 (sym e) (utf8-from-ascii (word-text w) (digits-ascii 8 w))
+
+-- more than eight bytes are no word
+pub too-long : (bs : List ℕ) → 8 < length bs → word-in bs ≡ None
+too-long bs h = cond-false (eqb (length bs) 8) _ _ (ne-eqb (length bs) 8 (λ e. omega arith))

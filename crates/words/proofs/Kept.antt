@@ -4,18 +4,13 @@ use mathlib.Core.List.{List}
 use mathlib.Core.Logic.{inl, inr}
 use Prim.Native.Nat.{ℕ, _<_, _≤_}
 use native.Mathlib.Omega.{arith}
-use lib.Dec.{eqb}
 use lib.ListN.{length, take}
 use Rattle.std.proofs.shelf.Lists.{take-all, length-take-le}
-use Rattle.std.proofs.shelf.Tests.{cases-lt, cond-false, ne-eqb}
-use Rattle.std.specs.declared.option.Option.{Option}
-use Rattle.std.specs.declared.option.Option.the-variants.{None}
+use Rattle.std.proofs.shelf.Tests.{cases-lt}
 use Rattle.text.specs.Texts.{word-in}
+use Rattle.text.proofs.Digits.{too-long}
 use Rattle.words.specs.declared.answer.Answer.{Answer}
 use Rattle.words.specs.Answers.{answer-for, answered}
-
-too-long : (bs : List ℕ) → 8 < length bs → word-in bs ≡ None
-too-long bs h = cond-false (eqb (length bs) 8) _ _ (ne-eqb (length bs) 8 (λ e. omega arith))
 
 word-kept : (bs : List ℕ) → word-in (take 33 bs) ≡ word-in bs
 word-kept bs =
