@@ -1,17 +1,17 @@
 -- Words of any format: what is written is canonical, and a canonical word that is read and written again is itself.
 -- Assumes nothing.
 use mathlib.Core.Path.{_≡_, refl, sym, ap, _∙_, subst}
-use mathlib.Core.Bool.{Bool, true, false, cond, _&&_, _||_}
+use mathlib.Core.Bool.{true, false, _||_}
 use mathlib.Core.Logic.{_⊎_, inl, inr}
 use Prim.Native.Nat.{ℕ, zero, suc, _+_, _*_, _/_, _%_, _^_, _<_, _≤_}
-use native.Mathlib.Nat.{pow-suc, mod-eq-of-lt}
+use native.Mathlib.Nat.{pow-suc}
 use native.Mathlib.Omega.{arith}
 use lib.Dec.{ltb, eqb}
 use lib.IntN.{ℤ, pos, natAbs, _+ℤ_, _-ℤ_}
 use lib.Pow.{pow-pos, pow-mono}
 use Rattle.std.proofs.shelf.Signed.{ints}
 use Rattle.std.proofs.shelf.Ways.{tells}
-use Rattle.std.proofs.shelf.Tests.{lt-ltb, le-ltb, ltb-true, ltb-false, eqb-true, eqb-false, eq-eqb, and-parts, and-from, or-cases, or-right, cases-bool, cond-true, cond-false, both-ways}
+use Rattle.std.proofs.shelf.Tests.{lt-ltb, ltb-true, eqb-true, eqb-false, eq-eqb, and-parts, and-from, or-cases, or-right, cases-bool, cond-true, cond-false, both-ways}
 use Rattle.std.proofs.shelf.Bits.{div-mul-add, mod-mul-add, div-below, mod-below, div-add-mod'}
 use Rattle.rounding.specs.declared.sign.Sign.{Sign}
 use Rattle.rounding.specs.declared.sign.Sign.the-variants.{Plus, Minus}
@@ -19,7 +19,7 @@ use Rattle.decimal.specs.Declets.{declet-value, declet-of, canonical-declet}
 use Rattle.decimal.specs.Numbers.{Datum, finite, infinite, quiet, signalling}
 use Rattle.decimal.specs.Words.{Format, In-format, declets-value, declets-of, canonical-declets, sign-of, sign-bit, exponent-lead, leading-digit, combination-of, signalling-bit, sign-field, combination-field, continuation-field, declets-field, number-of-fields, number-of, word-of-fields, finite-word, word-of, canonical-fields, canonical, word-count}
 use Rattle.decimal.proofs.Packed.{written, readable}
-use Rattle.decimal.proofs.Trip.{thousand-bits, thousands, declets-small, values-small, combination-small, bit-small, number-finite, number-quiet, number-signalling}
+use Rattle.decimal.proofs.Trip.{thousand-bits, thousands, declets-small, values-small, combination-small, number-finite, number-quiet, number-signalling}
 
 -- the declets, however many
 

@@ -2,22 +2,20 @@
 -- Assumes nothing.
 use mathlib.Core.Path.{_≡_, refl, sym, ap, _∙_}
 use Prim.Native.Nat.{ℕ, zero, suc, _+_, _*_, _/_, _%_, _^_, _<_, _≤_}
-use native.Mathlib.Nat.{pow-suc, mod-eq-of-lt, mul-le-mul-right}
+use native.Mathlib.Nat.{pow-suc, mod-eq-of-lt}
 use native.Mathlib.Omega.{arith}
-use lib.Dec.{ltb, eqb}
 use lib.Arith.{mod-mul}
 use lib.IntN.{ℤ, pos, natAbs, _+ℤ_, _-ℤ_}
-use lib.Signed.{_≤ℤ_, _<ℤ_}
 use Rattle.std.proofs.shelf.Signed.{ints}
 use Rattle.std.proofs.shelf.Ways.{tells}
-use Rattle.std.proofs.shelf.Tests.{lt-ltb, le-ltb, ltb-true, cond-both}
+use Rattle.std.proofs.shelf.Tests.{lt-ltb, le-ltb}
 use lib.Pow.{pow-pos, pow-mono}
 use Rattle.std.proofs.shelf.Bits.{div-mul-add, mod-mul-add, div-below, mod-below, div-add-mod'}
 use Rattle.rounding.specs.declared.sign.Sign.{Sign}
 use Rattle.rounding.specs.declared.sign.Sign.the-variants.{Plus, Minus}
-use Rattle.decimal.specs.Declets.{declet-value, declet-of, canonical-declet}
+use Rattle.decimal.specs.Declets.{declet-of}
 use Rattle.decimal.specs.Numbers.{Datum, finite, infinite, quiet, signalling}
-use Rattle.decimal.specs.Words.{Format, In-format, declets-value, declets-of, canonical-declets, sign-of, sign-bit, exponent-lead, leading-digit, combination-of, signalling-bit, sign-field, combination-field, continuation-field, declets-field, number-of-fields, number-of, word-of-fields, finite-word, word-of, canonical-fields, canonical, word-count}
+use Rattle.decimal.specs.Words.{Format, In-format, declets-value, declets-of, sign-of, sign-bit, exponent-lead, leading-digit, combination-of, signalling-bit, number-of-fields, number-of, word-of-fields, finite-word, word-of}
 use Rattle.decimal.proofs.Packed.{written, readable}
 
 -- the declets, however many
@@ -134,39 +132,3 @@ round-trip f one (signalling s n) h =
     fields f s 31 (signalling-bit f) (declets-of (f .declets) n) (omega arith) (omega arith) (declets-small (f .declets) n)
     ∙ number-signalling f s (signalling-bit f) (declets-value (f .declets) (declets-of (f .declets) n)) (omega arith)
     ∙ ap (signalling s) (declets-back (f .declets) n ∙ mod-eq-of-lt h)
-
--- what is read from any word is a number of the format
-
-top-small : (g : ℕ) → g < 30 → exponent-lead g < 3
-top-small g h = grind (arith, tells)
-
-leading-small : (g : ℕ) → leading-digit g < 10
-leading-small g = grind (arith, tells)
-
-finite-within : (f : Format) (s : Sign) (h d e v : ℕ) → h < 3 → d < 10 → e < 2 ^ f .continuation → v < 1000 ^ f .declets
-    → In-format f (finite s (d * 1000 ^ f .declets + v) (pos (h * 2 ^ f .continuation + e) -ℤ pos (f .bias)))
-finite-within f s h d e v hh hd he hv =
-    let p : d * 1000 ^ f .declets ≤ 9 * 1000 ^ f .declets = mul-le-mul-right (1000 ^ f .declets) (omega arith) in
-    let q : h * 2 ^ f .continuation ≤ 2 * 2 ^ f .continuation = mul-le-mul-right (2 ^ f .continuation) (omega arith) in
-    (omega arith, omega (arith, ints), omega (arith, ints))
-
-pub read-within : (f : Format) (w : ℕ) → In-format f (number-of f w)
-unfolding number-of
-read-within f w =
-    let s : ℕ = w / 1024 ^ f .declets / 2 ^ f .continuation / 32 % 2 in
-    let g : ℕ = w / 1024 ^ f .declets / 2 ^ f .continuation % 32 in
-    let e : ℕ = w / 1024 ^ f .declets % 2 ^ f .continuation in
-    let t : ℕ = w % 1024 ^ f .declets in
-    let v : ℕ = declets-value (f .declets) t in
-    let he : e < 2 ^ f .continuation = mod-below (w / 1024 ^ f .declets) (2 ^ f .continuation) (pow-pos (f .continuation)) in
-    let hv : v < 1000 ^ f .declets = values-small (f .declets) t in
-    cond-both (ltb g 30) _ _ (In-format f)
-    (λ b. finite-within f (sign-of s) (exponent-lead g) (leading-digit g) e v (top-small g (ltb-true g 30 b)) (leading-small g) he hv)
-    (λ b. cond-both (eqb g 30) _ _ (In-format f) (λ _. tt) (λ _. cond-both (ltb e (signalling-bit f)) _ _ (In-format f) (λ _. hv) (λ _. hv)))
-
--- so a word that was read and written stands for the same number, and a written word is written so again
-pub same-number : (f : Format) → 1 ≤ f .continuation → (w : ℕ) → number-of f (word-of f (number-of f w)) ≡ number-of f w
-same-number f one w = round-trip f one (number-of f w) (read-within f w)
-
-pub same-word : (f : Format) → 1 ≤ f .continuation → (t : Datum) → In-format f t → word-of f (number-of f (word-of f t)) ≡ word-of f t
-same-word f one t h = ap (word-of f) (round-trip f one t h)

@@ -1,5 +1,5 @@
 -- A request, field by field, and by the first 33 bytes of its line. Assumes nothing.
-use mathlib.Core.Path.{_≡_, refl, sym, ap, _∙_, subst}
+use mathlib.Core.Path.{_≡_, refl, sym, ap, _∙_}
 use mathlib.Core.Bool.{cond}
 use mathlib.Core.List.{List}
 use mathlib.Core.Logic.{inl, inr}
@@ -14,7 +14,7 @@ use Rattle.std.proofs.shelf.Lists.{take-all, take-rest, take-take, drop-take, g
 use Rattle.std.proofs.shelf.Tests.{cases-lt}
 use Rattle.text.specs.Texts.{word-in}
 use Rattle.text.proofs.Digits.{too-long}
-use Rattle.divide.specs.Requests.{mode-in, mode-from, ended-word, with-divisor, with-dividend, with-mode, request-in}
+use Rattle.divide.specs.Requests.{mode-in, ended-word, with-divisor, with-dividend, with-mode, request-in}
 use Rattle.divide.proofs.Modes.{mode-near, mode-kept}
 
 -- all three fields

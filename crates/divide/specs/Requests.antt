@@ -1,6 +1,6 @@
 -- A line `MODE WORD WORD`: a mode number of one to nine digits, a blank, and two words of eight hexadecimal digits with a blank between them.
 -- Assumes nothing.
-use mathlib.Core.Bool.{Bool, cond, _&&_}
+use mathlib.Core.Bool.{cond, _&&_}
 use mathlib.Core.List.{List, [], _∷_}
 use Prim.Native.Nat.{ℕ, _+_, _-_, _*_}
 use lib.Dec.{eqb, leb, ltb}

@@ -5,7 +5,7 @@ ghost use Prim.Native.Nat.{ℕ};
 ghost use lib.ListN.{take};
 ghost use Rattle.std.specs.declared.option.Option.the-variants.{Some};
 ghost use Rattle.text.specs.Lines.{known};
-ghost use Rattle.divide.specs.Answers.{answer-text, answered, defect-text, division-answer, mode-answer, request-answer};
+ghost use Rattle.divide.specs.Answers.{answer-text, answered, defect-text, mode-answer};
 ghost use Rattle.rounding.specs.Modes.{mode-numbered};
 use crate::request::Defect;
 use crate::request::Request;

@@ -1,13 +1,12 @@
 -- A draft begun from two numbers stands for their quotient. Assumes nothing.
 use mathlib.Core.Path.{_≡_, refl, sym, ap, _∙_, subst}
-use mathlib.Core.Bool.{Bool, true, false, cond}
-use mathlib.Core.Logic.{_⊎_, inl, inr}
+use mathlib.Core.Bool.{false}
 use Prim.Native.Nat.{ℕ, zero, suc, _+_, _-_, _*_, _/_, _%_, _^_, _<_, _≤_}
 use native.Mathlib.Nat.{zero-mul, mul-le-mul-right, mul-pos, div-add-mod, mod-lt, le-div-iff-mul-le}
 use native.Mathlib.Omega.{arith}
 use lib.Pow.{pow-add}
 use lib.Dec.{ltb}
-use Rattle.std.proofs.shelf.Tests.{cases-lt, lt-ltb, cond-both}
+use Rattle.std.proofs.shelf.Tests.{lt-ltb, cond-both}
 use Rattle.quotient.specs.Quotients.{decimal32, quotient-top, quotient-bottom}
 use Rattle.quotient.specs.Drafts.{Drafted}
 use Rattle.quotient.proofs.Exponent.{tens-pos}

@@ -1,13 +1,11 @@
 -- The biased quotient that a reciprocal at claim nine gives is the quotient or one more.
 -- Assumes nothing.
-use mathlib.Core.Path.{_≡_, refl, sym, _∙_}
-use mathlib.Core.Bool.{cond, not}
-use mathlib.Core.Logic.{_↔_}
+use mathlib.Core.Path.{_≡_, refl, sym}
+use mathlib.Core.Bool.{cond}
 use Prim.Native.Nat.{ℕ, zero, suc, _+_, _-_, _*_, _/_, _%_, _^_, _<_, _≤_}
 use native.Mathlib.Omega.{arith}
 use native.Mathlib.Nat.{mul-le-mul-left, mul-le-mul-right, le-of-mul-le-mul-left, lt-of-mul-lt-mul-left, div-eq-of-lt-le, div-mul-le-self, lt-div-mul-add, div-add-mod', sub-add-cancel, le-div-iff-mul-le, lt-of-mul-lt-mul-right}
-use lib.Dec.{ltb, eqb}
-use Rattle.std.specs.Orderings.{Decides}
+use lib.Dec.{ltb}
 use Rattle.std.proofs.shelf.Ways.{tells}
 use Rattle.std.proofs.shelf.Tests.{cond-both, ltb-true, ltb-false}
 use Rattle.reciprocal.specs.Sources.{Approximates}

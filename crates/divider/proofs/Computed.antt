@@ -1,6 +1,6 @@
 -- The worked lines, by computing. Assumes nothing.
 use mathlib.Core.Path.{_≡_, refl}
-use mathlib.Core.List.{List, [], _∷_}
+use mathlib.Core.List.{[], _∷_}
 use Rattle.rounding.specs.declared.mode.Mode.the-variants.{NearestEven, NearestAway}
 use Rattle.decimal.specs.Declets.{declet-value, declet-of}
 use Rattle.decimal.specs.Words.{number-of}

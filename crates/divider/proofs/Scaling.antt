@@ -1,13 +1,11 @@
 -- A coefficient brought to seven digits. Assumes nothing.
-use mathlib.Core.Path.{_≡_, refl, sym, ap, _∙_}
-use mathlib.Core.Bool.{true, false}
-use Prim.Native.Nat.{ℕ, suc, _+_, _*_, _^_, _<_, _≤_}
+use mathlib.Core.Path.{_≡_, sym, ap, _∙_}
+use Prim.Native.Nat.{ℕ, _+_, _*_, _^_, _<_, _≤_}
 use native.Mathlib.Nat.{mul-le-mul-left}
 use native.Mathlib.Omega.{arith}
 use lib.Dec.{leb}
 use lib.Pow.{pow-add}
 use Rattle.std.proofs.shelf.Tests.{le-leb, lt-leb}
-use Rattle.quotient.specs.Search.{Least}
 use Rattle.quotient.proofs.Exponent.{tens-least}
 use Rattle.quotient.proofs.Search.{least-is}
 use Rattle.divider.specs.Drafts.{zeros-behind, Scaled}

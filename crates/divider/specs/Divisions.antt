@@ -1,16 +1,16 @@
 -- The quotient of two numbers and of two words, by IEEE 754-2008: the exact quotient, rounded once. No source of reciprocals has a part in
 -- it. Assumes nothing.
-use mathlib.Core.Bool.{Bool, true, false, cond, _||_}
+use mathlib.Core.Bool.{Bool, true, false, cond}
 use Prim.Native.Nat.{ℕ, _+_, _-_}
 use lib.Dec.{eqb, ltb}
-use lib.IntN.{ℤ, pos, negsuc, _-ℤ_}
+use lib.IntN.{pos, negsuc, _-ℤ_}
 use Rattle.std.specs.declared.result.Result.{Result}
 use Rattle.std.specs.declared.result.Result.the-variants.{Ok, Err}
 use Rattle.refusals.specs.declared.Fault.{Fault}
 use Rattle.refusals.specs.declared.Refusal.the-variants.{ClaimUnderNine}
 use Rattle.refusals.specs.Refusals.{at-no-place}
 use Rattle.rounding.specs.declared.sign.Sign.{Sign}
-use Rattle.rounding.specs.declared.sign.Sign.the-variants.{Plus, Minus}
+use Rattle.rounding.specs.declared.sign.Sign.the-variants.{Plus}
 use Rattle.rounding.specs.declared.mode.Mode.{Mode}
 use Rattle.rounding.specs.declared.flags.Flags.{Flags}
 use Rattle.rounding.specs.Flags.{no-flags}

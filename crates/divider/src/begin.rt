@@ -1,14 +1,11 @@
 // Beginning a division.
 ghost use mathlib.Core.Path.{_≡_};
-ghost use mathlib.Core.Bool.{cond};
 ghost use Prim.Native.Nat.{_+_, _-_, _*_, _/_, _^_, _<_, _≤_};
-ghost use lib.Dec.{ltb};
 ghost use Rattle.std.specs.Vec.{made};
 ghost use Rattle.decimal.specs.Numbers.{datum};
-ghost use Rattle.quotient.specs.Drafts.{Drafted};
 ghost use Rattle.quotient.specs.Quotients.{decimal32, quotient-top, quotient-bottom};
 ghost use Rattle.reciprocal.specs.Sources.{Approximates};
-ghost use Rattle.divider.specs.Drafts.{Scaled, Stands-for, Stands-for-quotient, begin-by, counted, draft-by, draft-from, held, held-result, product-sign, seven-digits-of, widening, zeros-behind};
+ghost use Rattle.divider.specs.Drafts.{Scaled, Stands-for, Stands-for-quotient, begin-by, counted, draft-by, draft-from, held, held-result, product-sign, widening};
 use crate::draft::Draft;
 use decimal::Finite;
 use decimal::Number;

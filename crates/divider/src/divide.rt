@@ -1,10 +1,8 @@
 // The quotient of two words.
 ghost use mathlib.Core.Path.{_≡_};
-ghost use mathlib.Core.Bool.{true, cond};
+ghost use mathlib.Core.Bool.{true};
 ghost use Prim.Native.Nat.{_<_};
-ghost use lib.Dec.{eqb, ltb};
 ghost use Rattle.std.specs.declared.result.Result.the-variants.{Ok, Err};
-ghost use Rattle.refusals.specs.Refusals.{at-no-place};
 ghost use lib.IntN.{negsuc};
 ghost use Rattle.decimal.specs.Numbers.{datum, finite, finite-datum, infinite, quiet};
 ghost use Rattle.divider.specs.Drafts.{counted, product-sign};

@@ -1,6 +1,6 @@
-// Finishing a division: one rounding, or striking out.
+// The corrected quotient of a draft, and its rounding.
 ghost use mathlib.Core.Path.{_≡_};
-ghost use Prim.Native.Nat.{ℕ, _+_, _/_, _%_, _<_, _≤_};
+ghost use Prim.Native.Nat.{ℕ, _/_, _%_, _<_};
 ghost use lib.Dec.{ltb};
 ghost use Rattle.decimal.specs.Numbers.{datum};
 ghost use Rattle.quotient.specs.Drafts.{In-range};
@@ -78,12 +78,5 @@ impl Draft {
             number: number_of(self.sign, rounded.magnitude),
             flags: rounded.flags,
         }
-    }
-
-    /// Strikes the draft out: it ends, and nothing is answered.
-    pub fn strike_out(mut self)
-        ensures { λ r. ⌜ r ≡ tt ⌝ }
-    {
-        self.finished = true;
     }
 }

@@ -4,6 +4,7 @@ mod divide;
 mod draft;
 mod finish;
 mod outcome;
+mod strike;
 mod worked;
 
 pub use divide::divide_words;

@@ -1,15 +1,13 @@
 -- A fraction known by its floor and whether anything is left, cut at a power of ten. Assumes nothing.
-use mathlib.Core.Path.{_≡_, refl, sym, ap, _∙_}
-use mathlib.Core.Bool.{Bool, true, false, cond, not, _&&_}
-use mathlib.Core.Logic.{_⊎_, inl, inr}
-use Prim.Native.Nat.{ℕ, zero, suc, _+_, _-_, _*_, _/_, _%_, _^_, _<_, _≤_}
-use native.Mathlib.Nat.{mul-div-mul-right, div-div-eq-div-mul, div-add-mod, mul-le-mul-right, mul-le-mul-left, mul-pos, lt-of-mul-lt-mul-right, le-of-mul-le-mul-right}
+use mathlib.Core.Path.{_≡_, sym, ap, _∙_}
+use mathlib.Core.Logic.{inl, inr}
+use Prim.Native.Nat.{ℕ, zero, suc, _+_, _-_, _*_, _/_, _%_, _<_, _≤_}
+use native.Mathlib.Nat.{mul-div-mul-right, div-div-eq-div-mul, div-add-mod, mul-le-mul-right, lt-of-mul-lt-mul-right, le-of-mul-le-mul-right}
 use native.Mathlib.Omega.{arith}
 use lib.Arith.{digits-div}
-use lib.Dec.{ltb, eqb}
-use Rattle.std.proofs.shelf.Tests.{cases-lt, cases-eq, cond-true, cond-false, lt-ltb, le-ltb, eq-eqb, ne-eqb, ltb-true, ltb-false}
+use lib.Dec.{ltb}
+use Rattle.std.proofs.shelf.Tests.{cases-lt}
 use Rattle.std.proofs.shelf.Ways.{tells}
-use Rattle.rounding.specs.declared.mode.Position.{Position}
 use Rattle.rounding.specs.declared.mode.Position.the-variants.{Whole, Below, Middle, Above}
 use Rattle.rounding.specs.Rounding.{placed, position}
 use Rattle.rounding.proofs.Meant.{placed-whole, placed-below, placed-middle, placed-above}

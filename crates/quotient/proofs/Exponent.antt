@@ -1,17 +1,16 @@
 -- The exponent at which a draft is cut is the least. Assumes nothing.
 use mathlib.Core.Path.{_≡_, refl, sym, ap, _∙_, subst}
-use mathlib.Core.Bool.{Bool, true, false, cond, not, _&&_}
-use mathlib.Core.Logic.{_⊎_, inl, inr}
+use mathlib.Core.Bool.{Bool, cond}
+use mathlib.Core.Logic.{inl, inr}
 use Prim.Native.Nat.{ℕ, zero, suc, _+_, _-_, _*_, _/_, _%_, _^_, _<_, _≤_, min}
-use native.Mathlib.Nat.{mul-le-mul-right, mul-le-mul-left, mul-pos, lt-of-mul-lt-mul-right, le-of-mul-le-mul-right, one-le-pow, pow-suc, pow-le-pow-right, div-eq-of-lt, mod-eq-of-lt}
+use native.Mathlib.Nat.{mul-le-mul-right, mul-le-mul-left, lt-of-mul-lt-mul-right, le-of-mul-le-mul-right, one-le-pow, pow-suc, pow-le-pow-right, div-eq-of-lt, mod-eq-of-lt}
 use native.Mathlib.Omega.{arith}
 use lib.Pow.{pow-add}
-use lib.Dec.{ltb, eqb}
-use Rattle.std.proofs.shelf.Tests.{cases-lt, cond-true, cond-false, lt-ltb, le-ltb}
-use Rattle.quotient.specs.Search.{least, Least}
+use lib.Dec.{ltb}
+use Rattle.std.proofs.shelf.Tests.{cases-lt, cond-true, lt-ltb, le-ltb}
 use Rattle.quotient.specs.Quotients.{Range, exponent-of, under}
 use Rattle.rounding.specs.Rounding.{position}
-use Rattle.quotient.specs.Drafts.{Drafted, Sized, Cut, sticky}
+use Rattle.quotient.specs.Drafts.{Drafted, Cut, sticky}
 use Rattle.quotient.proofs.Search.{least-is}
 use Rattle.quotient.proofs.Cut.{Parts, floors, same-place}
 

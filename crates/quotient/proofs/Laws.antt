@@ -1,14 +1,14 @@
 -- The searches of the definition find what they say. Assumes nothing.
-use mathlib.Core.Path.{_≡_, refl, sym, ap, _∙_, subst}
+use mathlib.Core.Path.{_≡_, sym, ap, _∙_, subst}
 use mathlib.Core.Bool.{Bool, true, false, cond, _&&_, _||_}
-use mathlib.Core.Logic.{_⊎_, inl, inr}
-use Prim.Native.Nat.{ℕ, zero, suc, _+_, _-_, _*_, _/_, _%_, _^_, _<_, _≤_}
+use mathlib.Core.Logic.{inl, inr}
+use Prim.Native.Nat.{ℕ, suc, _+_, _-_, _*_, _/_, _%_, _^_, _<_, _≤_}
 use native.Mathlib.Nat.{div-add-mod, mul-mod-right, div-lt-iff-lt-mul, mul-pos, mul-le-mul-left}
 use native.Mathlib.Omega.{arith}
 use lib.Pow.{pow-add}
 use lib.Dec.{ltb, eqb, leb}
-use Rattle.std.proofs.shelf.Tests.{cases-lt, cases-bool, cond-true, cond-false, ltb-true, ltb-false, lt-ltb, le-ltb, leb-true, le-leb, eqb-true, eq-eqb, and-parts, and-from, or-cases, or-parts, or-left, or-right, both-ways}
-use Rattle.quotient.specs.Search.{least, Least}
+use Rattle.std.proofs.shelf.Tests.{cases-lt, cases-bool, cond-true, cond-false, ltb-true, ltb-false, lt-ltb, le-ltb, leb-true, le-leb, eqb-true, eq-eqb, and-parts, and-from, or-cases, or-left, or-right, both-ways}
+use Rattle.quotient.specs.Search.{Least}
 use Rattle.quotient.specs.Quotients.{Range, under, exponent-of, fits, distance, preferred}
 use Rattle.quotient.specs.Laws.{Least-exponent, Nearest, apart, Definition-stands}
 use Rattle.quotient.proofs.Exponent.{tens-pos, tens-least}

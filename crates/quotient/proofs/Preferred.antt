@@ -1,16 +1,15 @@
 -- Of the exponents that show an exact quotient, the nearest to the ideal one. Assumes nothing.
-use mathlib.Core.Path.{_≡_, refl, sym, ap, _∙_, subst}
-use mathlib.Core.Bool.{Bool, true, false, cond, not, _&&_, _||_}
-use mathlib.Core.Logic.{_⊎_, inl, inr}
-use Prim.Native.Nat.{ℕ, zero, suc, _+_, _-_, _*_, _/_, _%_, _^_, _<_, _≤_, min}
-use native.Mathlib.Nat.{mul-le-mul-right, mul-le-mul-left, mul-pos, pow-suc, mul-div-cancel, mul-mod-left, div-add-mod, le-of-mul-le-mul-right, le-div-iff-mul-le}
+use mathlib.Core.Path.{_≡_, sym, ap, _∙_, subst}
+use mathlib.Core.Bool.{true, false, cond, _&&_, _||_}
+use mathlib.Core.Logic.{inl, inr}
+use Prim.Native.Nat.{ℕ, suc, _+_, _-_, _*_, _/_, _%_, _^_, _<_, _≤_}
+use native.Mathlib.Nat.{mul-pos, pow-suc, mul-div-cancel, mul-mod-left, div-add-mod, le-of-mul-le-mul-right, le-div-iff-mul-le}
 use native.Mathlib.Omega.{arith}
 use lib.Pow.{pow-add}
 use lib.Dec.{ltb, eqb, leb}
-use Rattle.std.proofs.shelf.Tests.{cases-lt, cases-eq, cond-true, cond-false, lt-ltb, le-ltb, le-leb, lt-leb, eq-eqb, ne-eqb, and-from, and-left, and-right, or-left, or-right, or-from}
-use Rattle.quotient.specs.Search.{least, Least}
+use Rattle.std.proofs.shelf.Tests.{cases-lt, cond-true, cond-false, lt-ltb, le-ltb, le-leb, lt-leb, eq-eqb, ne-eqb, and-from, and-left, and-right, or-left, or-right, or-from}
+use Rattle.quotient.specs.Search.{least}
 use Rattle.quotient.specs.Quotients.{Range, fits, distance, preferred}
-use Rattle.quotient.specs.Drafts.{Stripped}
 use Rattle.quotient.proofs.Search.{least-is}
 use Rattle.quotient.proofs.Exponent.{tens-pos}
 

@@ -1,12 +1,12 @@
 -- The ways of a rounding, each against the definition. Assumes nothing.
 use mathlib.Core.Path.{_≡_, refl, sym, ap, _∙_, subst}
-use mathlib.Core.Bool.{Bool, true, false, cond, not, _&&_, _||_}
-use mathlib.Core.Logic.{_⊎_, inl, inr}
+use mathlib.Core.Bool.{Bool, true, false, cond}
+use mathlib.Core.Logic.{inl, inr}
 use Prim.Native.Nat.{ℕ, zero, suc, _+_, _-_, _*_, _/_, _%_, _^_, _<_, _≤_, min}
-use native.Mathlib.Nat.{mul-le-mul-right, mul-le-mul-left, mul-pos, lt-of-mul-lt-mul-right, div-add-mod, div-lt-iff-lt-mul}
+use native.Mathlib.Nat.{mul-le-mul-left, mul-pos, lt-of-mul-lt-mul-right, div-add-mod, div-lt-iff-lt-mul}
 use native.Mathlib.Omega.{arith}
-use lib.Dec.{ltb, eqb, leb}
-use Rattle.std.proofs.shelf.Tests.{cases-lt, cases-eq, cases-bool, cond-true, cond-false, cond-both, lt-ltb, le-ltb, eq-eqb, ne-eqb, true≢false}
+use lib.Dec.{ltb, eqb}
+use Rattle.std.proofs.shelf.Tests.{cases-lt, cases-bool, cond-true, cond-false, cond-both, lt-ltb, le-ltb, eq-eqb, ne-eqb, true≢false}
 use Rattle.std.proofs.shelf.Ways.{tells}
 use Rattle.rounding.specs.declared.sign.Sign.{Sign}
 use Rattle.rounding.specs.declared.sign.Sign.the-variants.{Plus, Minus}
@@ -15,12 +15,11 @@ use Rattle.rounding.specs.Flags.{no-flags}
 use Rattle.rounding.specs.declared.mode.Mode.the-variants.{NearestEven, NearestZero, NearestAway, Ceiling, Floor, TowardZero, AwayFromZero}
 use Rattle.rounding.specs.declared.mode.Position.{Position}
 use Rattle.rounding.specs.declared.mode.Position.the-variants.{Whole, Below, Middle, Above}
-use Rattle.quotient.specs.declared.types.Rounded.{Rounded}
 use Rattle.quotient.specs.declared.types.Magnitude.the-variants.{Finite, Infinite}
-use Rattle.rounding.specs.Rounding.{placed, position, is-whole, goes-up, is-odd, rounded-at, rounded}
+use Rattle.rounding.specs.Rounding.{placed, position, is-whole, goes-up, is-odd, rounded-at}
 use Rattle.quotient.specs.Quotients.{Range, decimal32, to-infinity, exponent-of, under, preferred, divided, nonzero, finite, overflow, exact, inexact, inexact-flags}
-use Rattle.quotient.specs.Drafts.{Drafted, Sized, Cut, Stripped, sticky, In-range}
-use Rattle.quotient.proofs.Cut.{Parts, floors, same-place}
+use Rattle.quotient.specs.Drafts.{Drafted, Stripped, sticky, In-range}
+use Rattle.quotient.proofs.Cut.{floors, same-place}
 use Rattle.quotient.proofs.Exponent.{tens-pos, tens-least, tenth, At, last, parts-of, below-less, above, too-low, exponent-is, exponent-past, Same, clamped}
 use Rattle.quotient.proofs.Preferred.{Shown, whole-is, preferred-is}
 

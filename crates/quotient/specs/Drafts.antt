@@ -1,15 +1,14 @@
 -- A quotient by its leading digits: what they stand for, and what rounding them needs. Assumes nothing.
 use mathlib.Core.Path.{_≡_}
-use mathlib.Core.Bool.{Bool, true, false, cond, not, _&&_}
-use Prim.Native.Nat.{ℕ, suc, _+_, _-_, _*_, _%_, _^_, _<_, _≤_}
+use mathlib.Core.Bool.{Bool, cond, not, _&&_}
+use Prim.Native.Nat.{ℕ, _+_, _-_, _*_, _%_, _^_, _<_, _≤_}
 use lib.Dec.{ltb, eqb}
-use Rattle.quotient.specs.Quotients.{Range}
 use Rattle.quotient.specs.declared.types.Magnitude.{Magnitude}
 use Rattle.quotient.specs.declared.types.Magnitude.the-variants.{Finite, Infinite}
 use Rattle.rounding.specs.declared.mode.Position.{Position}
 use Rattle.rounding.specs.declared.mode.Position.the-variants.{Whole, Below, Middle, Above}
 
--- The draft q, left, place stands for n / d, in units of the least exponent: with a fraction f = rest / (d * 10^place),
+-- The digits q, with something left or not, at this place stand for n / d, in units of the least exponent: with a fraction f = rest / (d * 10^place),
 -- n / d * 10^shift = (q + f) * 10^place, where 0 <= f < 1, and f is 0 just where nothing is left.
 -- So its exponent is place - shift, counted from the format's least one.
 pub record Drafted (shift q : ℕ) (left : Bool) (place n d : ℕ) : Type 0 where
@@ -20,16 +19,11 @@ pub record Drafted (shift q : ℕ) (left : Bool) (place n d : ℕ) : Type 0 wher
   pub flag : left ≡ ltb 0 rest
   pub none : q ≡ 0 → n ≡ 0
 
--- A draft has one digit more than the format, or is 0, and is at most ten times the greatest coefficient. Quotients of the format's numbers are.
-pub record Sized (f : Range) (q : ℕ) (left : Bool) : Type 0 where
-  pub least : 0 < q → 10 ^ f .digits ≤ q
-  pub most : q + cond left 1 0 + 10 ≤ 10 * 10 ^ f .digits
-
 -- where (m + f) / p lies between 0 and 1, told by m and whether f is more than 0
 abbrev pub sticky : ℕ → ℕ → Bool → Position
 sticky m p left = cond (ltb (2 * m) p) (cond (eqb m 0 && not left) Whole Below) (cond (eqb (2 * m) p && not left) Middle Above)
 
--- where a draft is cut: `digits` of q's digits go, at least one, so that the exponent is not below 0
+-- where the digits are cut: `digits` of q's digits go, at least one, so that the exponent is not below 0
 pub record Cut (shift place k digits : ℕ) : Type 0 where
   pub sum : k + shift ≡ place + digits
   pub one : 1 ≤ digits

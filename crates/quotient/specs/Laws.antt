@@ -1,8 +1,7 @@
 -- What the searches of the definition find. Assumes nothing.
 use mathlib.Core.Path.{_≡_}
-use mathlib.Core.Bool.{Bool, true}
+use mathlib.Core.Bool.{true}
 use Prim.Native.Nat.{ℕ, suc, _+_, _-_, _*_, _^_, _<_, _≤_}
-use Rattle.quotient.specs.Search.{least, Least}
 use Rattle.quotient.specs.Quotients.{Range, exponent-of, fits, preferred}
 
 -- e is the least exponent of the format with n / d < 10^(e + digits), or one past the greatest, and there is none

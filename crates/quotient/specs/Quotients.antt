@@ -10,7 +10,6 @@ use Rattle.rounding.specs.Flags.{no-flags}
 use Rattle.rounding.specs.Rounding.{rounded, position, is-whole, by-sign}
 use Rattle.decimal.specs.Words.{Format}
 use Rattle.decimal.specs.Words.{decimal32 as decimal32-words}
-use Rattle.quotient.specs.declared.types.Magnitude.{Magnitude}
 use Rattle.quotient.specs.declared.types.Magnitude.the-variants.{Finite, Infinite}
 use Rattle.quotient.specs.declared.types.Rounded.{Rounded}
 use Rattle.quotient.specs.Search.{least}

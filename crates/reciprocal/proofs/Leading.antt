@@ -4,7 +4,7 @@ use mathlib.Core.Path.{_≡_, refl, ap}
 use mathlib.Core.Logic.{⊎-elim}
 use Prim.Native.Nat.{ℕ, _+_, _-_, _*_, _/_, _%_, _^_, _<_, _≤_}
 use native.Mathlib.Omega.{arith}
-use native.Mathlib.Nat.{mul-le-mul, mul-le-mul-left, mul-le-mul-right, le-of-mul-le-mul-left, lt-of-mul-lt-mul-left, div-mul-le-self, lt-div-mul-add, mul-pos}
+use native.Mathlib.Nat.{mul-le-mul, mul-le-mul-left, mul-le-mul-right, le-of-mul-le-mul-left, lt-of-mul-lt-mul-left, div-mul-le-self, lt-div-mul-add}
 use Rattle.std.proofs.shelf.Tests.{cases-lt}
 use Rattle.reciprocal.specs.Sources.{Approximates, entry, factor, table-reciprocal}
 
@@ -55,7 +55,8 @@ entry-pos : {B Q M u w l a c r X D : ℕ} → Parts B Q M u w l a c r X D → 0 
 entry-pos {B} {a = a} {c = c} p =
     let s : a ≤ 10 * B = omega arith in
     let t : a ≤ 10000 = omega arith in
-    omega (arith, mul-le-mul s s, mul-le-mul-left c (mul-le-mul t t), mul-le-mul-left (B * B) (mul-le-mul (p .wide) (p .wide)), mul-le-mul (p .wide) (p .wide))
+    let w : 100 * 100 ≤ B * B = mul-le-mul (p .wide) (p .wide) in
+    omega (arith, mul-le-mul s s, mul-le-mul-left c (mul-le-mul t t), mul-le-mul-left (B * B) w)
 
 short : {B Q M u w l a c r X D : ℕ} → Parts B Q M u w l a c r X D → r * D < 100000 * (B * B)
 short {B} {a = a} {c = c} {r} {X} {D} p =

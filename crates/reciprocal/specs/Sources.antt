@@ -13,6 +13,7 @@ pub record Approximates (G D r : ℕ) : Type 0 where
   pub below : r * D < 10 ^ (G + 8)
   pub near : 2 * (10 ^ (G + 8) - r * D) < 11 * D
 
+-- whether d is a number of seven digits
 abbrev pub seven-digits : ℕ → Bool
 seven-digits d = leb 1000000 d && leb d 9999999
 

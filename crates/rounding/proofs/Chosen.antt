@@ -2,7 +2,6 @@
 use mathlib.Core.Path.{_≡_, ap, subst, sym, _∙_}
 use mathlib.Core.Bool.{Bool}
 use Prim.Native.Nat.{ℕ, _/_}
-use lib.IntN.{ℤ}
 use Rattle.rounding.specs.declared.sign.Sign.{Sign}
 use Rattle.rounding.specs.declared.mode.Mode.{Mode}
 use Rattle.rounding.specs.declared.mode.Position.{Position}

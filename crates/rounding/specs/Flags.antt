@@ -1,5 +1,5 @@
 -- The exception flags. Assumes nothing.
-use mathlib.Core.Bool.{Bool, true, false, cond, _||_}
+use mathlib.Core.Bool.{false, cond, _||_}
 use Prim.Native.Nat.{ℕ, _+_}
 use Rattle.rounding.specs.declared.flags.Flags.{Flags}
 

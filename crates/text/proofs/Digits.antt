@@ -3,7 +3,7 @@ use mathlib.Core.Path.{_≡_, refl, ap, sym, subst, _∙_}
 use Rattle.std.specs.Text.{Ascii, Utf8}
 use Rattle.std.proofs.shelf.Ascii.{ascii-nil, ascii-cons}
 use Rattle.std.proofs.shelf.Text.{utf8-from-ascii}
-use mathlib.Core.List.{List, [], _∷_, _++_}
+use mathlib.Core.List.{List, [], _∷_}
 use Prim.Native.Nat.{ℕ, zero, suc, _+_, _*_, _/_, _%_, _^_, _<_, _≤_}
 use native.Mathlib.Nat.{pow-suc}
 use native.Mathlib.Omega.{arith}

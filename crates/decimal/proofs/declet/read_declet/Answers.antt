@@ -1,7 +1,7 @@
 -- The table is the rule at each of its 1,024 places, by one computed test.
 -- Assumes nothing.
 use Prim.Native.Nat.{ℕ, _%_, _<_}
-use mathlib.Core.Path.{_≡_, refl, subst, sym}
+use mathlib.Core.Path.{refl, subst, sym}
 use native.Mathlib.Omega.{arith}
 use Rattle.decimal.specs.Declets.{declet-value}
 use Rattle.decimal.proofs.Rule.{table-at}

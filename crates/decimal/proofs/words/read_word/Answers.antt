@@ -1,6 +1,5 @@
 -- What a canonical word is written as again, by the law of any format.
 -- Assumes nothing.
-use borrow.Author.Needs.{needs}
 use Prim.Native.Nat.{_^_, _<_}
 use native.Mathlib.Omega.{arith}
 use Rattle.decimal.proofs.Single.{same-word}

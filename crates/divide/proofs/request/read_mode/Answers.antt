@@ -1,5 +1,5 @@
 -- Assumes nothing.
-use mathlib.Core.Path.{_≡_, sym, _∙_}
+use mathlib.Core.Path.{sym, _∙_}
 use native.Mathlib.Omega.{arith}
 use Rattle.divide.proofs.Modes.{blank-first, blank-after, one-digit, no-digit, no-blank, more-digits, nine-digits}
 use Rattle.divide.proofs.request.read_mode.Needs as need

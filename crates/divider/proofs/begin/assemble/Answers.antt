@@ -1,7 +1,7 @@
 -- Every draft is within one of its quotient, which has eight digits or is 0.
 -- Assumes nothing.
 use mathlib.Core.Path.{_≡_, sym, subst}
-use Prim.Native.Nat.{ℕ, _+_, _*_, _/_, _^_, _<_, _≤_}
+use Prim.Native.Nat.{ℕ, _*_, _^_, _<_, _≤_}
 use native.Mathlib.Omega.{arith}
 use Rattle.divider.specs.Drafts.{widening}
 use Rattle.divider.proofs.Bracket.{Brackets, brackets, draft-fits, wide-least, wide-most}

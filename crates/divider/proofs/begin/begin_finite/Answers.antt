@@ -1,19 +1,18 @@
 -- The source is asked for the divisor of seven digits, and its answer is near enough at claim nine.
 -- Assumes nothing.
-use mathlib.Core.Path.{_≡_, refl, sym, ap, _∙_, subst}
-use mathlib.Core.Bool.{true, cond}
+use mathlib.Core.Path.{_≡_, sym, ap, _∙_, subst}
 use Prim.Native.Nat.{ℕ, zero, suc, _^_, _<_, _≤_}
 use native.Mathlib.Nat.{zero-mul}
 use native.Mathlib.Omega.{arith}
 use Rattle.std.specs.declared.result.Result.{Result}
-use Rattle.std.specs.declared.result.Result.the-variants.{Ok, Err}
+use Rattle.std.specs.declared.result.Result.the-variants.{Ok}
 use Rattle.std.specs.Results.{valueOr}
 use Rattle.refusals.specs.declared.Fault.{Fault}
 use Rattle.rounding.specs.declared.sign.Sign.{Sign}
 use Rattle.reciprocal.specs.Sources.{Approximates, asked, seven-digits}
 use Rattle.std.proofs.shelf.Tests.{cond-true, and-from, le-leb}
 use Rattle.quotient.specs.Quotients.{decimal32, quotient-top, quotient-bottom}
-use Rattle.divider.specs.Drafts.{Begun, Scaled, Stands-for, counted, draft-by, held}
+use Rattle.divider.specs.Drafts.{Scaled, Stands-for, counted, draft-by, held}
 use Rattle.divider.proofs.Begun.{Numbers, stands}
 use Rattle.divider.proofs.begin.begin_finite.Given as given
 use Rattle.divider.proofs.begin.begin_finite.Needs as need

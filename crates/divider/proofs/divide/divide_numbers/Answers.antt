@@ -1,5 +1,5 @@
 -- Assumes nothing.
-use mathlib.Core.Path.{_≡_, sym, ap, _∙_}
+use mathlib.Core.Path.{sym, ap, _∙_}
 use Rattle.decimal.specs.Numbers.{datum}
 use Rattle.divider.specs.Divisions.{number-quotient}
 use Rattle.divider.proofs.divide.divide_numbers.Needs as need

@@ -1,20 +1,19 @@
 -- An answer is the definition's, which does not mention the source.
 -- Assumes nothing.
-use mathlib.Core.Path.{_≡_, refl, sym, ap, _∙_}
+use mathlib.Core.Path.{_≡_, sym, ap, _∙_}
 use mathlib.Core.Bool.{true, false}
 use mathlib.Core.Logic.{inl, inr}
 use Prim.Native.Nat.{ℕ}
-use native.Mathlib.Omega.{arith}
-use lib.Dec.{eqb, ltb}
+use lib.Dec.{ltb}
 use Rattle.std.specs.Results.{isOk, valueOr}
 use Rattle.std.specs.declared.result.Result.{Result}
-use Rattle.std.specs.declared.result.Result.the-variants.{Ok, Err}
+use Rattle.std.specs.declared.result.Result.the-variants.{Ok}
 use Rattle.std.proofs.shelf.Tests.{cases-bool, cond-true, cond-false, eq-eqb, true≢false}
 use Rattle.refusals.specs.declared.Fault.{Fault}
 use Rattle.rounding.specs.declared.mode.Mode.{Mode}
 use Rattle.rounding.specs.Flags.{flags-number}
 use Rattle.divider.specs.declared.outcome.QuotientWord.{QuotientWord}
-use Rattle.divider.specs.Divisions.{agreement, word-quotient, word-division}
+use Rattle.divider.specs.Divisions.{word-quotient, word-division}
 use Rattle.divider.proofs.divide.sources_agree.Needs as need
 
 -- where there is an answer, the source claims nine, and the answer is the quotient

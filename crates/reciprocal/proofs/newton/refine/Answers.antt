@@ -6,8 +6,9 @@ use Rattle.reciprocal.proofs.newton.refine.Needs as need
 
 computed : (c : need.After-power-of-ten) → Computes (c .args .divisor) (c .args .answer) (c .power-of-ten .result) (c .power-of-ten-one .result)
 computed c =
-    computes (c .args .claim) _ _ (c .min-places .result) _ _ (c .pre .some) (c .pre .six) (c .pre .least) (c .pre .most) (c .pre .near) (c .min-places .ensures) (c .power-of-ten .ensures .value)
-    (c .power-of-ten-one .ensures .value)
+    let p = c .pre in
+    computes (c .args .claim) _ _ (c .min-places .result) _ _ (p .some) (p .six) (p .least) (p .most) (p .near) (c .min-places .ensures)
+    (c .power-of-ten .ensures .value) (c .power-of-ten-one .ensures .value)
 
 pub mul-gap : need.mul-gap
 mul-gap c = omega (arith, computed c .one)

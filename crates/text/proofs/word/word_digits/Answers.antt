@@ -1,8 +1,7 @@
 -- Eight digits, each the definition's.
 -- Assumes nothing.
-use mathlib.Core.Path.{_≡_, ap, _∙_}
-use mathlib.Core.List.{[], _∷_}
-use Prim.Native.Nat.{ℕ, _^_, _<_}
+use mathlib.Core.Path.{ap, _∙_}
+use Prim.Native.Nat.{_^_, _<_}
 use native.Mathlib.Omega.{arith}
 use Rattle.text.specs.Texts.{word-in}
 use Rattle.text.proofs.Digits.{eight, word-back}

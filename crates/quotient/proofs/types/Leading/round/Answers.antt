@@ -2,10 +2,9 @@
 -- Assumes nothing.
 use mathlib.Core.Path.{_≡_, refl, sym, ap, _∙_, subst}
 use mathlib.Core.Bool.{Bool, true, false, cond}
-use Prim.Native.Nat.{ℕ, zero, suc, _+_, _-_, _*_, _/_, _%_, _^_, _<_, _≤_, min}
+use Prim.Native.Nat.{ℕ, zero, suc, _+_, _-_, _/_, _%_, _^_, _<_, _≤_, min}
 use native.Mathlib.Omega.{arith}
 use Rattle.rounding.specs.Rounding.{is-whole, rounded-at}
-use Rattle.rounding.specs.Flags.{no-flags}
 use Rattle.quotient.specs.Quotients.{decimal32, finite}
 use Rattle.quotient.specs.Drafts.{Drafted, Cut, sticky, In-range}
 use Rattle.quotient.proofs.Exponent.{At}
