@@ -1,6 +1,6 @@
 -- Beginning a division: what is refused, and the draft that comes into being. Assumes nothing.
 use mathlib.Core.Path.{_≡_}
-use mathlib.Core.Bool.{cond}
+use mathlib.Core.Bool.{Bool, false, cond}
 use Prim.Native.Nat.{ℕ, _+_, _-_, _*_, _/_, _%_, _^_, _<_, _≤_}
 use lib.Dec.{eqb, ltb, leb}
 use lib.IntN.{ℤ, pos, natAbs, _+ℤ_}
@@ -35,7 +35,7 @@ zeros-behind c = least 6 (λ a. leb 1000000 (c * 10 ^ a))
 abbrev pub seven-digits-of : ℕ → ℕ
 seven-digits-of c = c * 10 ^ zeros-behind c
 
--- what a draft holds
+-- what a draft holds, and whether a finishing call took it
 pub record Begun : Type 0 where
   pub sign : Sign
   pub widened : ℕ
@@ -43,9 +43,10 @@ pub record Begun : Type 0 where
   pub biased : ℕ
   pub place : ℕ
   pub ideal : ℕ
+  pub finished : Bool
 
 abbrev pub held : Draft → Begun
-held d = record { sign = d .sign; widened = d .widened; divisor = d .divisor; biased = d .biased; place = d .place; ideal = d .ideal }
+held d = record { sign = d .sign; widened = d .widened; divisor = d .divisor; biased = d .biased; place = d .place; ideal = d .ideal; finished = d .finished }
 
 -- A dividend below the divisor is widened by eight zeros, any other by seven.
 abbrev pub widening : ℕ → ℕ → ℕ
@@ -61,6 +62,7 @@ draft-by s dy a ey dx b ex r =
       biased = 1 + dy * r / 10 ^ (17 - widening dy dx);
       place = ey + b + 205 - a - widening dy dx - ex;
       ideal = ey + 101 - ex;
+      finished = false;
     }
 
 abbrev pub draft-from : (ℕ → ℕ) → Sign → ℕ → ℕ → Sign → ℕ → ℕ → Begun
