@@ -55,7 +55,7 @@ impl Draft {
     }
 
     // The leading digits of the quotient.
-    fn leading(&self) -> Leading
+    pub(crate) fn leading(&self) -> Leading
         ensures digits { λ r. ⌜ r .digits ≡ held (now (self .entry)) .widened / held (now (self .entry)) .divisor ⌝ }
         ensures left { λ r. ⌜ r .left ≡ ltb 0 (held (now (self .entry)) .widened % held (now (self .entry)) .divisor) ⌝ }
         ensures place { λ r. ⌜ r .place ≡ held (now (self .entry)) .place ⌝ }

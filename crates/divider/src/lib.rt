@@ -4,6 +4,7 @@ mod divide;
 mod draft;
 mod finish;
 mod outcome;
+mod steps;
 mod strike;
 mod worked;
 

@@ -4,3 +4,4 @@ pub mod Exponent
 pub mod Preferred
 pub mod Ways
 pub mod Laws
+pub mod Splits

@@ -37,7 +37,7 @@ fn is_exact(position: Position) -> bool
 }
 
 // Where (rest + f) / unit lies, for a fraction f that is 0 exactly where nothing is left.
-fn locate(rest: u32, unit: u32, left: bool) -> Position
+pub(crate) fn locate(rest: u32, unit: u32, left: bool) -> Position
     requires { ⌜ rest < unit ⌝ ∗ ⌜ unit ≤ 1000000000 ⌝ }
     ensures { λ r. ⌜ r ≡ sticky rest unit left ⌝ }
 {
@@ -55,7 +55,7 @@ fn locate(rest: u32, unit: u32, left: bool) -> Position
 }
 
 // Ten to the number of digits that go; past nine it makes no difference.
-fn unit_of(digits: u16) -> u32
+pub(crate) fn unit_of(digits: u16) -> u32
     requires { ⌜ 1 ≤ digits ⌝ }
     ensures value { λ r. ⌜ r ≡ 10 ^ min digits 9 ⌝ }
     ensures least { λ r. ⌜ 10 ≤ r ⌝ }

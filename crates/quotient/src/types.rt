@@ -2,6 +2,7 @@
 ghost use mathlib.Core.Bool.{cond};
 ghost use Prim.Native.Nat.{_+_, _<_, _≤_};
 use rounding::Flags;
+use rounding::Position;
 
 /// The quotient (digits + f) x 10^(place - 205) for a fraction f of at least 0 and below 1, which is 0 exactly where nothing
 /// is left. It has eight digits, or is 0.
@@ -27,4 +28,11 @@ pub enum Magnitude {
 pub struct Rounded {
     pub magnitude: Magnitude,
     pub flags: Flags,
+}
+
+/// A magnitude between two whole numbers: the one under it, and where it lies above that.
+#[derive(Clone, Copy)]
+pub struct Split {
+    pub floor: u32,
+    pub position: Position,
 }
