@@ -9,7 +9,7 @@ from decimal import (
 )
 
 sys.dont_write_bytecode = True
-from make_words_vectors import differs, number_of, text_of  # noqa: E402
+from make_words_vectors import number_of, store, text_of  # noqa: E402
 from reference_divide import MODES, NAN, answer_line, answers, divide  # noqa: E402
 from reference_words import Number, decode, encode, show  # noqa: E402
 
@@ -381,26 +381,15 @@ def check_with_decimal(lines, stdout):
     print("%d input lines, %d agree with decimal" % (len(lines), checked), file=sys.stderr)
 
 
-def main(arguments):
-    check = arguments[:1] == ["--check"]
-    paths = arguments[check:]
-    if len(paths) != 3:
-        print(USAGE, file=sys.stderr)
-        return 2
-    folder, out_stdin, out_stdout = paths
+def make(folder):
+    """The input and the expected output, once the model has passed its checks."""
     pairs = published_pairs(folder, "divide.decTest") + published_pairs(folder, "ddDivide.decTest")
     lines = make_input(pairs + check_edges())
     stdin = b"\n".join(lines)
     stdout = answers(stdin)
     check_with_decimal(lines, stdout)
-    made = [(out_stdin, stdin), (out_stdout, stdout)]
-    if check:
-        return int(any([differs(path, data) for path, data in made]))
-    for path, data in made:
-        with open(path, "wb") as file:
-            file.write(data)
-    return 0
+    return stdin, stdout
 
 
 if __name__ == "__main__":
-    sys.exit(main(sys.argv[1:]))
+    sys.exit(store(sys.argv[1:], USAGE, make))

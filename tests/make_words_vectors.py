@@ -198,18 +198,23 @@ def differs(path, made):
     return True
 
 
-def main(arguments):
-    check = arguments[:1] == ["--check"]
-    paths = arguments[check:]
-    if len(paths) != 3:
-        print(USAGE, file=sys.stderr)
-        return 2
-    folder, out_stdin, out_stdout = paths
+def make(folder):
+    """The input and the expected output, once the model has passed its checks."""
     check_declets()
     stdin = make_input(published_words(os.path.join(folder, "dsEncode.decTest")))
     stdout = answers(stdin)
     print("%d input lines" % stdout.count(b"\n"), file=sys.stderr)
-    made = [(out_stdin, stdin), (out_stdout, stdout)]
+    return stdin, stdout
+
+
+def store(arguments, usage, make):
+    """Write what `make` gives for a folder of published lines, or with --check compare it with what is stored; the exit status."""
+    check = arguments[:1] == ["--check"]
+    paths = arguments[check:]
+    if len(paths) != 3:
+        print(usage, file=sys.stderr)
+        return 2
+    made = list(zip(paths[1:], make(paths[0])))
     if check:
         return int(any([differs(path, data) for path, data in made]))
     for path, data in made:
@@ -219,4 +224,4 @@ def main(arguments):
 
 
 if __name__ == "__main__":
-    sys.exit(main(sys.argv[1:]))
+    sys.exit(store(sys.argv[1:], USAGE, make))

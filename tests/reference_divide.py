@@ -6,7 +6,7 @@ from bisect import bisect_right
 from fractions import Fraction
 
 sys.dont_write_bytecode = True
-from reference_words import Number, decode, encode  # noqa: E402
+from reference_words import Number, answers as answer_lines, decode, encode  # noqa: E402
 
 # The modes: 1 nearest, ties to even; 2 nearest, ties toward zero; 3 nearest,
 # ties away from zero; 4 ceiling; 5 floor; 6 toward zero; 7 away from zero.
@@ -111,12 +111,7 @@ def answer_line(n, line_bytes):
 
 def answers(input_bytes):
     """The answers to all lines, as bytes, each ended by a newline."""
-    lines = input_bytes.split(b"\n")
-    if lines[-1] == b"":
-        lines.pop()
-    return b"".join(
-        answer_line(n, line).encode("ascii") + b"\n" for n, line in enumerate(lines, 1)
-    )
+    return answer_lines(input_bytes, answer_line)
 
 
 if __name__ == "__main__":

@@ -120,7 +120,7 @@ def answer_line(n, line_bytes):
     return "%08X %s %08X" % (word, show(number), encode(number))
 
 
-def answers(input_bytes):
+def answers(input_bytes, answer_line=answer_line):
     """The answers to all lines, as bytes, each ended by a newline."""
     lines = input_bytes.split(b"\n")
     if lines[-1] == b"":
