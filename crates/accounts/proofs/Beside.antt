@@ -1,5 +1,5 @@
 -- An exact value beside its floor, its ceiling and what the modes make of it. Assumes nothing.
-use Rattle.std.proofs.Common.{◌≡◌, ℕ, ◌+◌, ◌*◌, ◌/◌, ◌<◌, ◌≤◌, Bool, true, false, cond, not, ℤ, pos, ◌+ℤ◌, ◌-ℤ◌, ◌*ℤ◌, neg_ℤ, nat_abs, ◌≤ℤ◌, sym, refl, ap, ◌∙◌, subst, mul_le_mul_right, arith}
+use Rattle.std.proofs.Common.{◌≡◌, ℕ, ◌+◌, ◌*◌, ◌/◌, ◌<◌, ◌≤◌, Bool, true, false, cond, not, ℤ, pos, ◌+ℤ◌, ◌-ℤ◌, ◌*ℤ◌, neg_ℤ, nat_abs, ◌≤ℤ◌, sym, refl, ap, ◌∙◌, subst, mul-le-mul_right, arith}
 use borrow.Author.Differences.{up, down, product_is}
 use Rattle.std.proofs.lemmas.Int.{ints}
 use Rattle.rounding.specs.declared.sign.Sign.{Sign}
@@ -160,5 +160,5 @@ rise m q h =
         made 1 u (ap (λ w. cond w 0 (cond (is_near m) 1 2)) e ∙ ap (λ n. cond n 1 2) k) is (omega (arith, p.0)) (omega (arith, p.1))
     by false false e k u is l g =
         let gap_is : gap q ≡ 1 = ap (λ w. cond w 0 1) e in
-        let t : u * q.bottom ≤ 1 * q.bottom = mul_le_mul_right q.bottom (omega arith) in
+        let t : u * q.bottom ≤ 1 * q.bottom = mul-le-mul_right q.bottom (omega arith) in
         made 2 u (ap (λ w. cond w 0 (cond (is_near m) 1 2)) e ∙ ap (λ n. cond n 1 2) k) is (omega arith) (omega (arith, rest_small q h))

@@ -1,7 +1,7 @@
 -- What a call does to a card is what it does to the account. Assumes nothing.
-use Rattle.std.proofs.Common.{◌≡◌, ℕ, ◌+◌, ◌*◌, ◌^◌, ◌<◌, ◌≤◌, Bool, true, false, cond, eqb, ltb, leb, List, [], length, ℤ, pos, ◌+ℤ◌, Some, None, Ok, Err, Result, sym, refl, ap, ◌∙◌, subst, inl, inr, add_comm, mul_pos, arith}
+use Rattle.std.proofs.Common.{◌≡◌, ℕ, ◌+◌, ◌*◌, ◌^◌, ◌<◌, ◌≤◌, Bool, true, false, cond, eqb, ltb, leb, List, [], length, ℤ, pos, ◌+ℤ◌, Some, None, Ok, Err, Result, sym, refl, ap, ◌∙◌, subst, inl, inr, add_comm, mul-pos, arith}
 use lib.IntN.{+ℤ_comm}
-use Rattle.std.proofs.lemmas.Bool.{cases_lt, eqb_false}
+use Rattle.std.proofs.lemmas.Bool.{cases_lt, eqb-false}
 use Rattle.refusals.specs.declared.Fault.{Fault}
 use Rattle.rounding.specs.declared.sign.Sign.{Sign}
 use Rattle.rounding.specs.declared.mode.Mode.{Mode}
@@ -63,7 +63,7 @@ module _ (s : ℕ) (a : Standing) (t : Tally) (h : Carries s a t) where
 
   -- one item more
   added_carried : (m : Mode) (q : Exact) → 0 < q.bottom → Carries s (with_item m q a) (added m q.sign (split_by q.top q.bottom) t)
-  added_carried m q pos_bottom =
+  added_carried m q pos-bottom =
       let k = h.totals in
       let x : Item = record { mode = m; quotient = q } in
       record {
@@ -77,19 +77,19 @@ module _ (s : ℕ) (a : Standing) (t : Tally) (h : Carries s a t) where
           near_counts_inexact_near = ap (λ n. n + cond (inexact_near x) 1 0) k.near_counts_inexact_near ∙ add_comm _ _;
           far_counts_inexact_far = ap (λ n. n + cond (inexact_far x) 1 0) k.far_counts_inexact_far ∙ add_comm _ _;
         };
-        divided = (pos_bottom, h.divided);
+        divided = (pos-bottom, h.divided);
       }
 
   -- a posting is refused alike, or adds its item
   item_alike : (m : Mode) (q : Exact) → 0 < q.bottom
       → Alike (λ b c. Carries s c b) (judged_posted m q.sign (judged (length a.items) (split_at decimal32 s q.top q.bottom)) t) (item_posted m (in_steps s q) a)
-  item_alike m q pos_bottom = by (leb 10000 (length a.items)) (is_large (in_steps s q)) refl refl
+  item_alike m q pos-bottom = by (leb 10000 (length a.items)) (is_large (in_steps s q)) refl refl
     where
       by : (full large : Bool) → leb 10000 (length a.items) ≡ full → is_large (in_steps s q) ≡ large
           → Alike (λ b c. Carries s c b) (judged_posted m q.sign (judged (length a.items) (split_at decimal32 s q.top q.bottom)) t) (item_posted m (in_steps s q) a)
       by true large e l = rw e (record { same = refl; kept = h })
       by false true e l = rw (e, l) (record { same = refl; kept = h })
-      by false false e l = rw (e, l) (record { same = refl; kept = added_carried m (in_steps s q) (mul_pos pos_bottom (tens_pos _)) })
+      by false false e l = rw (e, l) (record { same = refl; kept = added_carried m (in_steps s q) (mul-pos pos-bottom (tens_pos _)) })
 
   pub posting_alike : (m : Mode) (e : Result Exact Fault) → ((q : Exact) → e ≡ Ok q → 0 < q.bottom) → Alike (λ b c. Carries s c b) (posted_exact m e t) (posting s m e a)
   posting_alike m (Err f) k = record { same = refl; kept = h }
@@ -103,8 +103,8 @@ finite_divided : (cx k : ℕ) (q r : Exact) (f : Fault) (z : Bool) → eqb cx 0 
 finite_divided cx k q r f true e b h = let z : ◌≡◌ {A = ℕ} 0 1 = cc in absurd (omega arith)
 finite_divided cx k q r f false e b h =
     let is : r ≡ q = cc in
-    let n : 0 < cx = elim (cases_lt 0 cx) [ inl l ↦ l | inr l ↦ absurd (eqb_false cx 0 e (omega arith)) ] in
-    subst (λ d. 0 < d) (sym b ∙ ap (λ x. x.bottom) is) (mul_pos n (tens_pos k))
+    let n : 0 < cx = elim (cases_lt 0 cx) [ inl l ↦ l | inr l ↦ absurd (eqb-false cx 0 e (omega arith)) ] in
+    subst (λ d. 0 < d) (sym b ∙ ap (λ x. x.bottom) is) (mul-pos n (tens_pos k))
 
 pub exact_divided : (y x : Datum) (q : Exact) → exact_quotient y x ≡ Ok q → 0 < q.bottom
 exact_divided (finite s cy ey) (finite t cx ex) q h = finite_divided cx (counted ex) q _ _ (eqb cx 0) refl refl h

@@ -1,5 +1,5 @@
 -- The law over the items of an account. Assumes nothing.
-use Rattle.std.proofs.Common.{◌≡◌, ℕ, ◌+◌, ◌*◌, ◌<◌, ◌≤◌, Bool, true, false, cond, not, ◌&&◌, List, [], ◌∷◌, ℤ, pos, ◌+ℤ◌, ◌-ℤ◌, ◌*ℤ◌, nat_abs, ◌≤ℤ◌, refl, ap, ◌∙◌, mul_le_mul_right, mul_pos, arith}
+use Rattle.std.proofs.Common.{◌≡◌, ℕ, ◌+◌, ◌*◌, ◌<◌, ◌≤◌, Bool, true, false, cond, not, ◌&&◌, List, [], ◌∷◌, ℤ, pos, ◌+ℤ◌, ◌-ℤ◌, ◌*ℤ◌, nat_abs, ◌≤ℤ◌, refl, ap, ◌∙◌, mul-le-mul_right, mul-pos, arith}
 use borrow.Author.Differences.{up, down, sum_is_lem, same_in}
 use Rattle.std.proofs.lemmas.Int.{ints}
 use Rattle.std.specs.List.{AllByRecursion as All}
@@ -53,13 +53,13 @@ joined n f N L d D r R e E =
     same_in _ _ (omega (arith, t, scale n D, scale N d, scale (f +ℤ L) (d * D), sum_is_lem (n *ℤ pos D) (N *ℤ pos d), sum_is_lem ((f +ℤ L) *ℤ pos (d * D)) (pos (r * D + R * d))))
 
 step_r : (r R g G d D : ℕ) → r ≤ g * d → R ≤ G * D → r * D + R * d ≤ (g + G) * (d * D)
-step_r r R g G d D h H = omega (arith, mul_le_mul_right D h, mul_le_mul_right d H)
+step_r r R g G d D h H = omega (arith, mul-le-mul_right D h, mul-le-mul_right d H)
 
 step_over : (u U r R w W d D : ℕ) → 2 * (u * d) ≤ 2 * r + w * d → 2 * (U * D) ≤ 2 * R + W * D → 2 * ((u + U) * (d * D)) ≤ 2 * (r * D + R * d) + (w + W) * (d * D)
-step_over u U r R w W d D h H = omega (arith, mul_le_mul_right D h, mul_le_mul_right d H)
+step_over u U r R w W d D h H = omega (arith, mul-le-mul_right D h, mul-le-mul_right d H)
 
 step_under : (u U r R w W d D : ℕ) → 2 * r ≤ 2 * (u * d) + w * d → 2 * R ≤ 2 * (U * D) + W * D → 2 * (r * D + R * d) ≤ 2 * ((u + U) * (d * D)) + (w + W) * (d * D)
-step_under u U r R w W d D h H = omega (arith, mul_le_mul_right D h, mul_le_mul_right d H)
+step_under u U r R w W d D h H = omega (arith, mul-le-mul_right D h, mul-le-mul_right d H)
 
 held : (items : List Item) → Divided items → Held items
 held [] h = record { r = 0; u = 0; den_pos = omega arith; num_is = refl; r_le = omega arith; high_is = refl; figure_is = refl; over = omega arith; under = omega arith }
@@ -74,7 +74,7 @@ held (x ∷ xs) h =
     record {
       r = rest q * e.den + t.r * q.bottom;
       u = v.u + t.u;
-      den_pos = mul_pos h.0 t.den_pos;
+      den_pos = mul-pos h.0 t.den_pos;
       num_is = joined (fraction q).num (value Floor q) e.num (total_of floor xs) q.bottom e.den (rest q) t.r (parts q h.0) t.num_is;
       r_le = rw g (step_r (rest q) t.r (gap q) (nears xs + fars xs) q.bottom e.den (rest_gap q h.0) t.r_le);
       high_is = rw g (let c = ceiling_gap q in let s = t.high_is in omega (arith, ints));

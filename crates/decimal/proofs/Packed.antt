@@ -1,6 +1,6 @@
 -- The laws of a declet, each by one computed test over all entries. Assumes nothing.
 use Rattle.std.proofs.Common.{◌≡◌, ℕ, zero, suc, ◌<◌, Bool, true, false, not, ◌&&◌, ◌||◌, eqb, ltb, ◌⊎◌, Decides, sym, refl}
-use Rattle.std.proofs.lemmas.Bool.Decides.{DecidesBelow_and, DecidesEqb, DecidesLtb, DecidesAnd, DecidesOr}
+use Rattle.std.proofs.lemmas.Bool.Decides.{Decides-below_and, Decides-eqb, Decides-ltb, Decides-and, Decides-or}
 use Rattle.decimal.specs.Declets.{declet_value, declet_of, canonical_declet}
 
 -- what is written is a canonical declet, and reading it gives the number back
@@ -23,8 +23,8 @@ flat P Q R b d = (λ e. let h = d.0 e in (h.0, h.1.0, h.1.1), λ h. d.1 (h.0, (h
 pub written : (n : ℕ) → n < 1000 → Written n
 unfolding declet_value declet_of canonical_declet
 written =
-    (DecidesBelow_and written? Written all_written
-    (λ n. flat _ _ _ (written? n) (DecidesAnd (eqb (declet_value (declet_of n)) n) _ (DecidesEqb _ _) (DecidesAnd (ltb (declet_of n) 1024) (canonical_declet (declet_of n)) (DecidesLtb _ _) (is_true _))))
+    (Decides-below_and written? Written all_written
+    (λ n. flat _ _ _ (written? n) (Decides-and (eqb (declet_value (declet_of n)) n) _ (Decides-eqb _ _) (Decides-and (ltb (declet_of n) 1024) (canonical_declet (declet_of n)) (Decides-ltb _ _) (is_true _))))
     refl (λ _. refl) 1000).0 refl
 
 -- what is read is below a thousand, and a canonical declet is the one written for it
@@ -45,6 +45,6 @@ is_false false = (λ _. refl, λ _. refl)
 pub readable : (d : ℕ) → d < 1024 → Readable d
 unfolding declet_value declet_of canonical_declet
 readable =
-    (DecidesBelow_and readable? Readable all_readable
-    (λ d. DecidesAnd (ltb (declet_value d) 1000) _ (DecidesLtb _ _) (DecidesOr (not (canonical_declet d)) (eqb (declet_of (declet_value d)) d) (is_false _) (DecidesEqb _ _)))
+    (Decides-below_and readable? Readable all_readable
+    (λ d. Decides-and (ltb (declet_value d) 1000) _ (Decides-ltb _ _) (Decides-or (not (canonical_declet d)) (eqb (declet_of (declet_value d)) d) (is_false _) (Decides-eqb _ _)))
     refl (λ _. refl) 1024).0 refl

@@ -1,11 +1,11 @@
 -- Words of any format: a number that is written and read again is itself.
 -- Assumes nothing.
-use Rattle.std.proofs.Common.{◌≡◌, ℕ, zero, suc, ◌+◌, ◌*◌, ◌/◌, ◌%◌, ◌^◌, ◌<◌, ◌≤◌, ℤ, pos, ◌+ℤ◌, ◌-ℤ◌, nat_abs, sym, refl, ap, ◌∙◌, mod_eq_of_lt, pow_suc, arith, pow_pos, pow_mono}
-use lib.Arith.{mod_mul}
+use Rattle.std.proofs.Common.{◌≡◌, ℕ, zero, suc, ◌+◌, ◌*◌, ◌/◌, ◌%◌, ◌^◌, ◌<◌, ◌≤◌, ℤ, pos, ◌+ℤ◌, ◌-ℤ◌, nat_abs, sym, refl, ap, ◌∙◌, mod-eq_of_lt, pow-suc, arith, pow_pos, pow_mono}
+use lib.Arith.{mod-mul}
 use Rattle.std.proofs.lemmas.Int.{ints}
 use Rattle.std.proofs.lemmas.Bool.Decides.{nat_tests}
-use Rattle.std.proofs.lemmas.Bool.{lt_ltb, le_ltb}
-use Rattle.std.proofs.lemmas.Nat.{div_mul_add, mod_mul_add, div_below, mod_below, div_add_mod'}
+use Rattle.std.proofs.lemmas.Bool.{lt-ltb, le-ltb}
+use Rattle.std.proofs.lemmas.Nat.{div-mul-add, mod-mul-add, div_below, mod_below, div-add-mod'}
 use Rattle.rounding.specs.declared.sign.Sign.{Sign}
 use Rattle.rounding.specs.declared.sign.Sign.TheVariants.{Plus, Minus}
 use Rattle.decimal.specs.Declets.{declet_of}
@@ -17,23 +17,23 @@ use Rattle.decimal.proofs.Packed.{written, readable}
 
 pub thousand_bits : (k : ℕ) → 0 < 1024 ^ k
 thousand_bits zero = omega arith
-thousand_bits (suc k) = rw pow_suc (omega (arith, thousand_bits k))
+thousand_bits (suc k) = rw pow-suc (omega (arith, thousand_bits k))
 
 pub thousands : (k : ℕ) → 0 < 1000 ^ k
 thousands zero = omega arith
-thousands (suc k) = rw pow_suc (omega (arith, thousands k))
+thousands (suc k) = rw pow-suc (omega (arith, thousands k))
 
 pub declets_small : (k n : ℕ) → declets_of k n < 1024 ^ k
 declets_small zero n = omega arith
 declets_small (suc k) n =
     let h : n % 1000 < 1000 = omega arith in
-    rw pow_suc (omega (arith, declets_small k (n / 1000), (written (n % 1000) h).1))
+    rw pow-suc (omega (arith, declets_small k (n / 1000), (written (n % 1000) h).1))
 
 pub values_small : (k t : ℕ) → declets_value k t < 1000 ^ k
 values_small zero t = omega arith
 values_small (suc k) t =
     let h : t % 1024 < 1024 = omega arith in
-    rw pow_suc (omega (arith, values_small k (t / 1024), (readable (t % 1024) h).0))
+    rw pow-suc (omega (arith, values_small k (t / 1024), (readable (t % 1024) h).0))
 
 pub declets_back : (k n : ℕ) → declets_value k (declets_of k n) ≡ n % 1000 ^ k
 declets_back zero n = omega arith
@@ -41,9 +41,9 @@ declets_back (suc k) n =
     let h : n % 1000 < 1000 = omega arith in
     let p = thousands k in
     let small : declet_of (n % 1000) < 1024 = (written (n % 1000) h).1 in
-    let m : n % (1000 ^ k * 1000) ≡ (n / 1000 % 1000 ^ k) * 1000 + n % 1000 = mod_mul n p (omega arith) in
-    rw (div_mul_add (declets_of k (n / 1000)) 1024 (declet_of (n % 1000)) small, mod_mul_add (declets_of k (n / 1000)) 1024 (declet_of (n % 1000)) small)
-    (rw (declets_back k (n / 1000), (written (n % 1000) h).0, pow_suc) (sym m))
+    let m : n % (1000 ^ k * 1000) ≡ (n / 1000 % 1000 ^ k) * 1000 + n % 1000 = mod-mul n p (omega arith) in
+    rw (div-mul-add (declets_of k (n / 1000)) 1024 (declet_of (n % 1000)) small, mod-mul-add (declets_of k (n / 1000)) 1024 (declet_of (n % 1000)) small)
+    (rw (declets_back k (n / 1000), (written (n % 1000) h).0, pow-suc) (sym m))
 
 -- the combination field
 
@@ -72,13 +72,13 @@ unfolding number_of
 fields f s g e t hg he ht =
     let hs : sign_bit s < 2 = bit_small s in
     rw (
-      div_mul_add ((sign_bit s * 32 + g) * 2 ^ f.continuation + e) (1024 ^ f.declets) t ht,
-      mod_mul_add ((sign_bit s * 32 + g) * 2 ^ f.continuation + e) (1024 ^ f.declets) t ht,
-      div_mul_add (sign_bit s * 32 + g) (2 ^ f.continuation) e he,
-      mod_mul_add (sign_bit s * 32 + g) (2 ^ f.continuation) e he,
-      div_mul_add (sign_bit s) 32 g hg,
-      mod_mul_add (sign_bit s) 32 g hg,
-      mod_eq_of_lt hs,
+      div-mul-add ((sign_bit s * 32 + g) * 2 ^ f.continuation + e) (1024 ^ f.declets) t ht,
+      mod-mul-add ((sign_bit s * 32 + g) * 2 ^ f.continuation + e) (1024 ^ f.declets) t ht,
+      div-mul-add (sign_bit s * 32 + g) (2 ^ f.continuation) e he,
+      mod-mul-add (sign_bit s * 32 + g) (2 ^ f.continuation) e he,
+      div-mul-add (sign_bit s) 32 g hg,
+      mod-mul-add (sign_bit s) 32 g hg,
+      mod-eq_of_lt hs,
       sign_back s,
     )
 
@@ -86,13 +86,13 @@ fields f s g e t hg he ht =
 
 pub number_finite : (f : Format) (s : Sign) (g e v : ℕ) → g < 30
     → number_of_fields f s g e v ≡ finite s (leading_digit g * 1000 ^ f.declets + v) (pos (exponent_lead g * 2 ^ f.continuation + e) -ℤ pos f.bias)
-number_finite f s g e v h = rw (lt_ltb g 30 h)
+number_finite f s g e v h = rw (lt-ltb g 30 h)
 
 pub number_quiet : (f : Format) (s : Sign) (e v : ℕ) → e < signalling_bit f → number_of_fields f s 31 e v ≡ quiet s v
-number_quiet f s e v h = rw (lt_ltb e (signalling_bit f) h)
+number_quiet f s e v h = rw (lt-ltb e (signalling_bit f) h)
 
 pub number_signalling : (f : Format) (s : Sign) (e v : ℕ) → signalling_bit f ≤ e → number_of_fields f s 31 e v ≡ signalling s v
-number_signalling f s e v h = rw (le_ltb e (signalling_bit f) h)
+number_signalling f s e v h = rw (le-ltb e (signalling_bit f) h)
 
 -- a finite number by its biased exponent
 pub finite_back : (f : Format) (s : Sign) (c x : ℕ) → c < 10 * 1000 ^ f.declets → x < 3 * 2 ^ f.continuation
@@ -107,7 +107,7 @@ finite_back f s c x hc hx =
     fields f s _ (x % 2 ^ f.continuation) (declets_of f.declets c)
     wide (mod_below x (2 ^ f.continuation) pE) (declets_small f.declets c)
     ∙ number_finite f s _ (x % 2 ^ f.continuation) (declets_value f.declets (declets_of f.declets c)) hg
-    ∙ rw (lead_back _ _ hh hd, digit_back _ _ hh hd, declets_back, div_add_mod' c (1000 ^ f.declets), div_add_mod' x (2 ^ f.continuation))
+    ∙ rw (lead_back _ _ hh hd, digit_back _ _ hh hd, declets_back, div-add-mod' c (1000 ^ f.declets), div-add-mod' x (2 ^ f.continuation))
 
 -- every number of a format, written and read again, is itself
 pub round_trip : (f : Format) → 1 ≤ f.continuation → (t : Datum) → InFormat f t → number_of f (word_of f t) ≡ t
@@ -121,9 +121,9 @@ round_trip f one (quiet s n) h =
     let two : 2 ≤ 2 ^ f.continuation = pow_mono one in
     fields f s 31 0 (declets_of f.declets n) (omega arith) (omega arith) (declets_small f.declets n)
     ∙ number_quiet f s 0 (declets_value f.declets (declets_of f.declets n)) (omega arith)
-    ∙ ap (quiet s) (declets_back f.declets n ∙ mod_eq_of_lt h)
+    ∙ ap (quiet s) (declets_back f.declets n ∙ mod-eq_of_lt h)
 round_trip f one (signalling s n) h =
     let two : 2 ≤ 2 ^ f.continuation = pow_mono one in
     fields f s 31 (signalling_bit f) (declets_of f.declets n) (omega arith) (omega arith) (declets_small f.declets n)
     ∙ number_signalling f s (signalling_bit f) (declets_value f.declets (declets_of f.declets n)) (omega arith)
-    ∙ ap (signalling s) (declets_back f.declets n ∙ mod_eq_of_lt h)
+    ∙ ap (signalling s) (declets_back f.declets n ∙ mod-eq_of_lt h)

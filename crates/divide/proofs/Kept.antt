@@ -1,6 +1,6 @@
 -- A request, field by field, and by the first 33 bytes of its line. Assumes nothing.
 use Rattle.std.proofs.Common.{◌≡◌, ℕ, ◌+◌, ◌-◌, ◌<◌, ◌≤◌, cond, eqb, List, length, get_or, take, drop, IfSome, Some, None, Option, sym, refl, ap, ◌∙◌, inl, inr, arith}
-use Rattle.std.proofs.lemmas.List.{take_all, take_rest, take_take, drop_take, get_or_take, length_drop, length_take_le}
+use Rattle.std.proofs.lemmas.List.{take_all, take_rest, take-take, drop-take, get_or-take, length-drop, length-take-le}
 use Rattle.std.proofs.lemmas.Bool.{cases_lt}
 use Rattle.text.specs.Texts.{word_in}
 use Rattle.text.proofs.Digits.{too_long}
@@ -16,15 +16,15 @@ fields bs m at v o e f g =
 ended_kept : (bs : List ℕ) (at : ℕ) → at ≤ 10 → ended_word (take 33 bs) at ≡ ended_word bs at
 ended_kept bs at h =
     let e : at + (33 - at) ≡ 33 = omega arith in
-    let cut : drop at (take 33 bs) ≡ take (33 - at) (drop at bs) = ap (λ n. drop at (take n bs)) (sym e) ∙ drop_take at (33 - at) bs in
-    ap (λ b. cond (eqb b 32) (word_in (take 8 (drop at (take 33 bs)))) None) (get_or_take 33 bs (at + 8) 0 (omega arith))
-    ∙ ap (λ ys. cond (eqb (get_or bs (at + 8) 0) 32) (word_in ys) None) (ap (take 8) cut ∙ take_take 8 (33 - at) (drop at bs) (omega arith))
+    let cut : drop at (take 33 bs) ≡ take (33 - at) (drop at bs) = ap (λ n. drop at (take n bs)) (sym e) ∙ drop-take at (33 - at) bs in
+    ap (λ b. cond (eqb b 32) (word_in (take 8 (drop at (take 33 bs)))) None) (get_or-take 33 bs (at + 8) 0 (omega arith))
+    ∙ ap (λ ys. cond (eqb (get_or bs (at + 8) 0) 32) (word_in ys) None) (ap (take 8) cut ∙ take-take 8 (33 - at) (drop at bs) (omega arith))
 
 divisor_kept : (bs : List ℕ) (at : ℕ) → at ≤ 10 → 33 < length bs → word_in (drop (at + 9) (take 33 bs)) ≡ word_in (drop (at + 9) bs)
 divisor_kept bs at h l =
-    let n : length (take 33 bs) ≡ 33 = length_take_le 33 bs (omega arith) in
-    let p : length (drop (at + 9) (take 33 bs)) ≡ length (take 33 bs) - (at + 9) = length_drop (at + 9) (take 33 bs) in
-    let q : length (drop (at + 9) bs) ≡ length bs - (at + 9) = length_drop (at + 9) bs in
+    let n : length (take 33 bs) ≡ 33 = length-take-le 33 bs (omega arith) in
+    let p : length (drop (at + 9) (take 33 bs)) ≡ length (take 33 bs) - (at + 9) = length-drop (at + 9) (take 33 bs) in
+    let q : length (drop (at + 9) bs) ≡ length bs - (at + 9) = length-drop (at + 9) bs in
     too_long (drop (at + 9) (take 33 bs)) (omega arith) ∙ sym (too_long (drop (at + 9) bs) (omega arith))
 
 by_mode : (bs : List ℕ) (o : Option (ℕ × ℕ)) → IfSome o (λ f. f.1 ≤ 10) → 33 < length bs → with_mode (take 33 bs) o ≡ with_mode bs o

@@ -1,8 +1,8 @@
 -- The mode number of a line, byte by byte. Assumes nothing.
-use Rattle.std.proofs.Common.{◌≡◌, ℕ, zero, suc, ◌+◌, ◌-◌, ◌*◌, ◌^◌, ◌<◌, ◌≤◌, true, false, cond, ◌&&◌, eqb, ltb, leb, List, [], ◌∷◌, length, get_or, take, drop, is_some, IfSome, Some, None, Option, sym, refl, ap, ◌∙◌, inl, inr, arith, pow_add}
-use native.Mathlib.Nat.{pow_le_pow_right}
+use Rattle.std.proofs.Common.{◌≡◌, ℕ, zero, suc, ◌+◌, ◌-◌, ◌*◌, ◌^◌, ◌<◌, ◌≤◌, true, false, cond, ◌&&◌, eqb, ltb, leb, List, [], ◌∷◌, length, get_or, take, drop, is_some, IfSome, Some, None, Option, sym, refl, ap, ◌∙◌, inl, inr, arith, pow-add}
+use native.Mathlib.Nat.{pow-le-pow_right}
 use Rattle.std.proofs.lemmas.List.{at_drop_more, at_drop_all}
-use Rattle.std.proofs.lemmas.Bool.{cases_Bool, cond_true, cond_false, eq_eqb, ne_eqb, cond_both, and_parts, ltb_true, true≢false}
+use Rattle.std.proofs.lemmas.Bool.{cases_Bool, cond-true, cond-false, eq-eqb, ne_eqb, cond_both, and_parts, ltb-true, true≢false}
 use Rattle.divide.specs.Requests.{digit_at, and_then, mode_from}
 
 -- one byte more
@@ -13,39 +13,39 @@ here : (bs : List ℕ) (i n : ℕ) → i < length bs → mode_from i n (drop i b
 here bs i n h = at_drop_more (mode_from i n) bs i 0 h
 
 pub blank_first : (bs : List ℕ) (i n : ℕ) → i < length bs → get_or bs i 0 ≡ 32 → i ≡ 0 → mode_from i n (drop i bs) ≡ None
-blank_first bs i n h b z = here bs i n h ∙ cond_true (eqb (get_or bs i 0) 32) _ _ (eq_eqb _ 32 b) ∙ cond_true (eqb i 0) _ _ (eq_eqb i 0 z)
+blank_first bs i n h b z = here bs i n h ∙ cond-true (eqb (get_or bs i 0) 32) _ _ (eq-eqb _ 32 b) ∙ cond-true (eqb i 0) _ _ (eq-eqb i 0 z)
 
 pub blank_after : (bs : List ℕ) (i n : ℕ) → i < length bs → get_or bs i 0 ≡ 32 → (i ≡ 0 → ⊥) → mode_from i n (drop i bs) ≡ Some (n, i + 1)
-blank_after bs i n h b z = here bs i n h ∙ cond_true (eqb (get_or bs i 0) 32) _ _ (eq_eqb _ 32 b) ∙ cond_false (eqb i 0) _ _ (ne_eqb i 0 z)
+blank_after bs i n h b z = here bs i n h ∙ cond-true (eqb (get_or bs i 0) 32) _ _ (eq-eqb _ 32 b) ∙ cond-false (eqb i 0) _ _ (ne_eqb i 0 z)
 
 pub one_digit : (bs : List ℕ) (i n d : ℕ) → i < length bs → (get_or bs i 0 ≡ 32 → ⊥) → digit_at i (get_or bs i 0) ≡ Some d → mode_from i n (drop i bs) ≡ mode_from (i + 1) (n * 10 + d) (drop (i + 1) bs)
 one_digit bs i n d h b e =
-    here bs i n h ∙ cond_false (eqb (get_or bs i 0) 32) _ _ (ne_eqb _ 32 b) ∙ ap (λ o. and_then o (λ v. mode_from (i + 1) (n * 10 + v) (drop (i + 1) bs))) e
+    here bs i n h ∙ cond-false (eqb (get_or bs i 0) 32) _ _ (ne_eqb _ 32 b) ∙ ap (λ o. and_then o (λ v. mode_from (i + 1) (n * 10 + v) (drop (i + 1) bs))) e
 
 pub no_digit : (bs : List ℕ) (i n : ℕ) → i < length bs → (get_or bs i 0 ≡ 32 → ⊥) → digit_at i (get_or bs i 0) ≡ None → mode_from i n (drop i bs) ≡ None
 no_digit bs i n h b e =
-    here bs i n h ∙ cond_false (eqb (get_or bs i 0) 32) _ _ (ne_eqb _ 32 b) ∙ ap (λ o. and_then o (λ v. mode_from (i + 1) (n * 10 + v) (drop (i + 1) bs))) e
+    here bs i n h ∙ cond-false (eqb (get_or bs i 0) 32) _ _ (ne_eqb _ 32 b) ∙ ap (λ o. and_then o (λ v. mode_from (i + 1) (n * 10 + v) (drop (i + 1) bs))) e
 
 pub no_blank : (bs : List ℕ) (i n : ℕ) → length bs ≤ i → mode_from i n (drop i bs) ≡ None
 no_blank bs i n h = at_drop_all (mode_from i n) bs i h
 
 -- i digits are a number below 10^i
 pub more_digits : (n d i : ℕ) → n < 10 ^ i → d < 10 → n * 10 + d < 10 ^ (i + 1)
-more_digits n d i h k = let e : 10 ^ (i + 1) ≡ 10 ^ i * 10 = pow_add 10 i 1 in omega arith
+more_digits n d i h k = let e : 10 ^ (i + 1) ≡ 10 ^ i * 10 = pow-add 10 i 1 in omega arith
 
 pub nine_digits : (n i : ℕ) → n < 10 ^ i → i < 9 → n < 10 ^ 8
 nine_digits n i h k =
     let ten : 0 < 10 = omega arith in
     let l : i ≤ 8 = omega arith in
-    let p : 10 ^ i ≤ 10 ^ 8 = pow_le_pow_right ten l in
+    let p : 10 ^ i ≤ 10 ^ 8 = pow-le-pow_right ten l in
     omega arith
 
 -- a digit stands among the first nine bytes
 few : (i b d : ℕ) → digit_at i b ≡ Some d → i + 1 ≤ 9
 few i b d e =
     elim (cases_Bool (ltb i 9 && (leb 48 b && leb b 57))) [
-      | inl t ↦ omega (arith, ltb_true i 9 (and_parts (ltb i 9) (leb 48 b && leb b 57) t).0)
-      | inr t ↦ absurd (true≢false (ap is_some (sym e ∙ cond_false (ltb i 9 && (leb 48 b && leb b 57)) _ _ t)))
+      | inl t ↦ omega (arith, ltb-true i 9 (and_parts (ltb i 9) (leb 48 b && leb b 57) t).0)
+      | inr t ↦ absurd (true≢false (ap is_some (sym e ∙ cond-false (ltb i 9 && (leb 48 b && leb b 57)) _ _ t)))
     ]
 
 -- the next field begins at the eleventh byte at the latest

@@ -1,6 +1,6 @@
 -- A coefficient brought to seven digits. Assumes nothing.
-use Rattle.std.proofs.Common.{◌≡◌, ℕ, ◌+◌, ◌*◌, ◌^◌, ◌<◌, ◌≤◌, leb, sym, ap, ◌∙◌, mul_le_mul_left, arith, pow_add}
-use Rattle.std.proofs.lemmas.Bool.{le_leb, lt_leb}
+use Rattle.std.proofs.Common.{◌≡◌, ℕ, ◌+◌, ◌*◌, ◌^◌, ◌<◌, ◌≤◌, leb, sym, ap, ◌∙◌, mul-le-mul_left, arith, pow-add}
+use Rattle.std.proofs.lemmas.Bool.{le-leb, lt-leb}
 use Rattle.quotient.proofs.Exponent.{tens_least}
 use Rattle.quotient.proofs.Search.{least_is}
 use Rattle.divider.specs.Drafts.{zeros_behind, Scaled}
@@ -9,7 +9,7 @@ use Rattle.divider.specs.Drafts.{zeros_behind, Scaled}
 zeros_are : (c a : ℕ) → a ≤ 6 → (a < 6 → 1000000 ≤ c * 10 ^ a) → ((j : ℕ) → j < a → c * 10 ^ j < 1000000) → zeros_behind c ≡ a
 zeros_are c a h enough fewer =
     least_is 6 (λ k. leb 1000000 (c * 10 ^ k)) a (
-    record { within = h; found = λ l. le_leb _ _ (enough l); before = λ j l. lt_leb _ _ (fewer j l) }
+    record { within = h; found = λ l. le-leb _ _ (enough l); before = λ j l. lt-leb _ _ (fewer j l) }
     )
 
 -- all that a comparison with a power of ten tells
@@ -28,5 +28,5 @@ scaled c d a h l e enough least most =
     fewer : (j : ℕ) → j < a → c * 10 ^ j < 1000000
     fewer j k =
         let p : 10 ^ (j + 1) ≤ 10 ^ a = tens_least (j + 1) a (omega arith) in
-        let e : 10 ^ (j + 1) ≡ 10 ^ j * 10 = pow_add 10 j 1 in
-        omega (arith, mul_le_mul_left c p, ap (λ x. c * x) e)
+        let e : 10 ^ (j + 1) ≡ 10 ^ j * 10 = pow-add 10 j 1 in
+        omega (arith, mul-le-mul_left c p, ap (λ x. c * x) e)

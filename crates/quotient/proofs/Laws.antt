@@ -1,7 +1,7 @@
 -- The searches of the definition find what they say. Assumes nothing.
-use Rattle.std.proofs.Common.{◌≡◌, ℕ, suc, ◌+◌, ◌-◌, ◌*◌, ◌/◌, ◌%◌, ◌^◌, ◌<◌, ◌≤◌, Bool, true, false, cond, ◌&&◌, ◌||◌, eqb, ltb, leb, sym, ap, ◌∙◌, subst, inl, inr, div_lt_iff_lt_mul, mul_le_mul_left, mul_pos, arith, pow_add}
-use native.Mathlib.Nat.{div_add_mod, mul_mod_right}
-use Rattle.std.proofs.lemmas.Bool.{cases_lt, cases_Bool, cond_true, cond_false, ltb_true, ltb_false, lt_ltb, le_ltb, leb_true, le_leb, eqb_true, eq_eqb, and_parts, and_from, or_cases, or_left, or_right, both_ways}
+use Rattle.std.proofs.Common.{◌≡◌, ℕ, suc, ◌+◌, ◌-◌, ◌*◌, ◌/◌, ◌%◌, ◌^◌, ◌<◌, ◌≤◌, Bool, true, false, cond, ◌&&◌, ◌||◌, eqb, ltb, leb, sym, ap, ◌∙◌, subst, inl, inr, div-lt_iff_lt-mul, mul-le-mul_left, mul-pos, arith, pow-add}
+use native.Mathlib.Nat.{div-add-mod, mul-mod_right}
+use Rattle.std.proofs.lemmas.Bool.{cases_lt, cases_Bool, cond-true, cond-false, ltb-true, ltb-false, lt-ltb, le-ltb, leb-true, le-leb, eqb-true, eq-eqb, and_parts, and_from, or_cases, or_left, or_right, both_ways}
 use Rattle.quotient.specs.Search.{Least}
 use Rattle.quotient.specs.Quotients.{Range, under, exponent_of, fits, distance, preferred}
 use Rattle.quotient.specs.Laws.{LeastExponent, Nearest, apart, DefinitionStands}
@@ -14,8 +14,8 @@ exponent f n d =
     let l = least_meant (suc f.span) (λ k. under n d (k + f.digits)) in
     record {
       within = l.within;
-      enough = λ h. ltb_true _ _ (l.found (omega arith));
-      before = λ j h. ltb_false _ _ (l.before j h);
+      enough = λ h. ltb-true _ _ (l.found (omega arith));
+      before = λ j h. ltb-false _ _ (l.before j h);
     }
 
 one_exponent : (f : Range) (n d e : ℕ) → LeastExponent f n d e → e ≡ exponent_of f n d
@@ -24,8 +24,8 @@ one_exponent f n d e t =
     sym (least_is (suc f.span) (λ k. under n d (k + f.digits)) e (
     record {
       within = t.within;
-      found = λ h. lt_ltb _ _ (t.enough (omega arith));
-      before = λ j h. le_ltb _ _ (t.before j h);
+      found = λ h. lt-ltb _ _ (t.enough (omega arith));
+      before = λ j h. le-ltb _ _ (t.before j h);
     }
     ))
 
@@ -37,7 +37,7 @@ at_apart : (f : Range) (n d i j : ℕ) → fits f n d j ≡ true → at f n d i 
 at_apart f n d i j h =
     elim (cases_lt j i) [
       | inl l ↦ let e : i - apart j i ≡ j = omega arith in
-          or_right (fits f n d (i + apart j i)) _ (and_from (leb (apart j i) i) _ (le_leb _ _ (omega arith)) (ap (fits f n d) e ∙ h))
+          or_right (fits f n d (i + apart j i)) _ (and_from (leb (apart j i) i) _ (le-leb _ _ (omega arith)) (ap (fits f n d) e ∙ h))
       | inr l ↦ let e : i + apart j i ≡ j = omega arith in
           or_left _ (leb (apart j i) i && fits f n d (i - apart j i)) (ap (fits f n d) e ∙ h)
     ]
@@ -46,7 +46,7 @@ at_apart f n d i j h =
 not_far : (f : Range) (n d i j : ℕ) → fits f n d j ≡ true → apart j i < suc (f.span + i)
 not_far f n d i j h =
     let p = and_parts (leb j f.span) (eqb (n % (d * 10 ^ j)) 0 && ltb (n / (d * 10 ^ j)) (10 ^ f.digits)) h in
-    omega (arith, leb_true j f.span p.0)
+    omega (arith, leb-true j f.span p.0)
 
 no_nearer : (f : Range) (n d i t j : ℕ) → Least (suc (f.span + i)) (at f n d i) t → fits f n d j ≡ true → t ≤ apart j i
 no_nearer f n d i t j l h =
@@ -60,12 +60,12 @@ nearest_at f n d i t j l h =
     let s : t < suc (f.span + i) = omega (arith, no_nearer f n d i t j l h, not_far f n d i j h) in
     let e : at f n d i t ≡ true = l.found s in
     elim (cases_Bool (fits f n d (i + t))) [
-      | inl u ↦ subst (Nearest f n d i) (sym (cond_true (fits f n d (i + t)) _ _ u)) (record { shows = u; nearest = λ k g. let o : t ≤ apart k i = no_nearer f n d i t k l g in omega arith })
+      | inl u ↦ subst (Nearest f n d i) (sym (cond-true (fits f n d (i + t)) _ _ u)) (record { shows = u; nearest = λ k g. let o : t ≤ apart k i = no_nearer f n d i t k l g in omega arith })
       | inr u ↦
           let v : (leb t i && fits f n d (i - t)) ≡ true = second (fits f n d (i + t)) _ u e in
           let p = and_parts (leb t i) (fits f n d (i - t)) v in
-          let w : t ≤ i = leb_true t i p.0 in
-          subst (Nearest f n d i) (sym (cond_false (fits f n d (i + t)) _ _ u)) (record { shows = p.1; nearest = λ k g. let o : t ≤ apart k i = no_nearer f n d i t k l g in omega arith })
+          let w : t ≤ i = leb-true t i p.0 in
+          subst (Nearest f n d i) (sym (cond-false (fits f n d (i + t)) _ _ u)) (record { shows = p.1; nearest = λ k g. let o : t ≤ apart k i = no_nearer f n d i t k l g in omega arith })
     ]
   where
     second : (x y : Bool) → x ≡ false → (x || y) ≡ true → y ≡ true
@@ -85,19 +85,19 @@ between f n d j i k pos a b g h =
     let q = and_parts (eqb (n % (d * 10 ^ j)) 0) (ltb (n / (d * 10 ^ j)) (10 ^ f.digits)) p.1 in
     let r = and_parts (leb k f.span) (eqb (n % (d * 10 ^ k)) 0 && ltb (n / (d * 10 ^ k)) (10 ^ f.digits)) h in
     let s = and_parts (eqb (n % (d * 10 ^ k)) 0) (ltb (n / (d * 10 ^ k)) (10 ^ f.digits)) r.1 in
-    let in_span : i ≤ f.span = omega (arith, leb_true k f.span r.0) in
-    let z : n % (d * 10 ^ k) ≡ 0 = eqb_true (n % (d * 10 ^ k)) 0 s.0 in
+    let in_span : i ≤ f.span = omega (arith, leb-true k f.span r.0) in
+    let z : n % (d * 10 ^ k) ≡ 0 = eqb-true (n % (d * 10 ^ k)) 0 s.0 in
     let t : ℕ = n / (d * 10 ^ k) in
-    let e : d * 10 ^ k * t ≡ n = omega (arith, div_add_mod n (d * 10 ^ k)) in
+    let e : d * 10 ^ k * t ≡ n = omega (arith, div-add-mod n (d * 10 ^ k)) in
     let w : i + (k - i) ≡ k = omega arith in
-    let u : 10 ^ k ≡ 10 ^ i * 10 ^ (k - i) = ap (λ x. 10 ^ x) (sym w) ∙ pow_add 10 i (k - i) in
+    let u : 10 ^ k ≡ 10 ^ i * 10 ^ (k - i) = ap (λ x. 10 ^ x) (sym w) ∙ pow-add 10 i (k - i) in
     let v : n ≡ d * 10 ^ i * (10 ^ (k - i) * t) = omega (arith, ap (λ x. d * x * t) u) in
-    let whole : n % (d * 10 ^ i) ≡ 0 = ap (λ x. x % (d * 10 ^ i)) v ∙ mul_mod_right (d * 10 ^ i) (10 ^ (k - i) * t) in
-    let l : n < 10 ^ f.digits * (d * 10 ^ j) = (div_lt_iff_lt_mul (mul_pos pos (tens_pos j))).0 (ltb_true (n / (d * 10 ^ j)) (10 ^ f.digits) q.1) in
+    let whole : n % (d * 10 ^ i) ≡ 0 = ap (λ x. x % (d * 10 ^ i)) v ∙ mul-mod_right (d * 10 ^ i) (10 ^ (k - i) * t) in
+    let l : n < 10 ^ f.digits * (d * 10 ^ j) = (div-lt_iff_lt-mul (mul-pos pos (tens_pos j))).0 (ltb-true (n / (d * 10 ^ j)) (10 ^ f.digits) q.1) in
     let m : 10 ^ j ≤ 10 ^ i = tens_least j i a in
-    let c : n < 10 ^ f.digits * (d * 10 ^ i) = omega (arith, mul_le_mul_left (10 ^ f.digits * d) m) in
-    let small : n / (d * 10 ^ i) < 10 ^ f.digits = (div_lt_iff_lt_mul (mul_pos pos (tens_pos i))).1 c in
-    and_from _ _ (le_leb i f.span in_span) (and_from _ _ (eq_eqb (n % (d * 10 ^ i)) 0 whole) (lt_ltb (n / (d * 10 ^ i)) (10 ^ f.digits) small))
+    let c : n < 10 ^ f.digits * (d * 10 ^ i) = omega (arith, mul-le-mul_left (10 ^ f.digits * d) m) in
+    let small : n / (d * 10 ^ i) < 10 ^ f.digits = (div-lt_iff_lt-mul (mul-pos pos (tens_pos i))).1 c in
+    and_from _ _ (le-leb i f.span in_span) (and_from _ _ (eq-eqb (n % (d * 10 ^ i)) 0 whole) (lt-ltb (n / (d * 10 ^ i)) (10 ^ f.digits) small))
 
 -- so there is one nearest
 one_ideal : (f : Range) (n d i k : ℕ) → 0 < d → Nearest f n d i k → k ≡ preferred f n d i

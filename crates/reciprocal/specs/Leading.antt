@@ -1,8 +1,8 @@
 -- A table by the first digits of a divisor approximates, at every divisor of seven digits.
 -- Assumes nothing.
 use Rattle.std.specs.Prelude.{◌≡◌, ℕ, ◌+◌, ◌-◌, ◌*◌, ◌/◌, ◌%◌, ◌^◌, ◌<◌, ◌≤◌, refl}
-use Rattle.std.proofs.Common.{ap, ⊎_elim, arith, mul_le_mul, mul_le_mul_left, mul_le_mul_right, div_mul_le_self}
-use Rattle.std.proofs.Math.Nat.{le_of_mul_le_mul_left, lt_of_mul_lt_mul_left, lt_div_mul_add}
+use Rattle.std.proofs.Common.{ap, ⊎_elim, arith, mul-le-mul, mul-le-mul_left, mul-le-mul_right, div-mul-le_self}
+use Rattle.std.proofs.Math.Nat.{le_of_mul-le-mul_left, lt_of_mul-lt-mul_left, lt-div-mul-add}
 use Rattle.std.proofs.lemmas.Bool.{cases_lt}
 use Rattle.reciprocal.specs.Sources.{Approximates, entry, factor, table_reciprocal}
 
@@ -40,43 +40,43 @@ factor_high {B} {Q} {M} {a = a} {X = X} {D = D} p =
     let s : 5 * (Q * X + D) + 1 ≤ Q * B * a =
     omega (arith, ap (λ (n : ℕ). n * Q) p.rest, ap (λ (n : ℕ). Q * n) p.x_is, ap (λ (n : ℕ). Q * B * n) p.a_is)
     in
-    let m : Q * (X * D) < Q * (100000 * (a * a)) = omega (arith, means (Q * X) D, mul_le_mul s s, ap (λ (n : ℕ). n * (Q * (a * a))) p.scale) in
-    lt_of_mul_lt_mul_left Q m
+    let m : Q * (X * D) < Q * (100000 * (a * a)) = omega (arith, means (Q * X) D, mul-le-mul s s, ap (λ (n : ℕ). n * (Q * (a * a))) p.scale) in
+    lt_of_mul-lt-mul_left Q m
 
 -- and below
 factor_low : {B Q M u w l a c r X D : ℕ} → Parts B Q M u w l a c r X D → 10000000 * (M * M + M) ≤ X * D + B * Q * M
 factor_low {B} {Q} {M} {u} {w} {X = X} {D = D} p =
-    let m : (B * M + w) * (B * Q * M + Q * u) ≤ X * D = mul_le_mul (omega arith) (omega arith) in
+    let m : (B * M + w) * (B * Q * M + Q * u) ≤ X * D = mul-le-mul (omega arith) (omega arith) in
     omega (arith, m, ap (λ (n : ℕ). B * Q * M * n) p.rest, ap (λ (n : ℕ). n * (M * M + M)) p.scale)
 
 entry_pos : {B Q M u w l a c r X D : ℕ} → Parts B Q M u w l a c r X D → 0 < c
 entry_pos {B} {a = a} {c = c} p =
     let s : a ≤ 10 * B = omega arith in
     let t : a ≤ 10000 = omega arith in
-    let w : 100 * 100 ≤ B * B = mul_le_mul p.wide p.wide in
-    omega (arith, mul_le_mul s s, mul_le_mul_left c (mul_le_mul t t), mul_le_mul_left (B * B) w)
+    let w : 100 * 100 ≤ B * B = mul-le-mul p.wide p.wide in
+    omega (arith, mul-le-mul s s, mul-le-mul_left c (mul-le-mul t t), mul-le-mul_left (B * B) w)
 
 short : {B Q M u w l a c r X D : ℕ} → Parts B Q M u w l a c r X D → r * D < 100000 * (B * B)
 short {B} {a = a} {c = c} {r} {X} {D} p =
     let m : (B * B) * (r * D) < (B * B) * (100000 * (B * B)) =
-    omega (arith, mul_le_mul_right D p.r_low, mul_le_mul_left c (factor_high p), entry_pos p, p.c_low)
+    omega (arith, mul-le-mul_right D p.r_low, mul-le-mul_left c (factor_high p), entry_pos p, p.c_low)
     in
-    lt_of_mul_lt_mul_left (B * B) m
+    lt_of_mul-lt-mul_left (B * B) m
 
 -- the one place where the first digit counts: the entry is small beside M
 cubic : (B M a : ℕ) → B ≤ 10 * M → M ≤ 999 → a ≡ 10 * M + 5 → 1000 * (B * B * (4 * M + B)) ≤ 13996 * (M * (a * a))
 cubic B M a b m e =
     let s : 4 * M + B ≤ 14 * M = omega arith in
-    omega (arith, mul_le_mul (mul_le_mul b b) s, mul_le_mul_right (M * M) m, ap (λ (n : ℕ). M * (n * n)) e)
+    omega (arith, mul-le-mul (mul-le-mul b b) s, mul-le-mul_right (M * M) m, ap (λ (n : ℕ). M * (n * n)) e)
 
 small : {B Q M u w l a c r X D : ℕ} → Parts B Q M u w l a c r X D → 1000 * (c * (4 * M + B)) ≤ 13996 * (B * B * M)
 small {B} {M = M} {a = a} {c = c} p =
     let q = cubic B M a p.least (omega arith) p.a_is in
     let m : (a * a) * (1000 * (c * (4 * M + B))) ≤ (a * a) * (13996 * (B * B * M)) =
-    omega (arith, mul_le_mul_right (4 * M + B) p.c_low, mul_le_mul_left (B * B) q)
+    omega (arith, mul-le-mul_right (4 * M + B) p.c_low, mul-le-mul_left (B * B) q)
     in
     let s : 1 ≤ a = omega arith in
-    le_of_mul_le_mul_left m (mul_le_mul s s)
+    le_of_mul-le-mul_left m (mul-le-mul s s)
 
 close : {B Q M u w l a c r X D : ℕ} → Parts B Q M u w l a c r X D → 2 * (100000 * (B * B)) < 11 * D + 2 * (r * D)
 close {B} {Q} {M} {a = a} {c = c} {r} {X} {D} p =
@@ -86,20 +86,20 @@ close {B} {Q} {M} {a = a} {c = c} {r} {X} {D} p =
     let m : (B * B) * (2 * (100000 * (B * B))) < (B * B) * (11 * D + 2 * (r * D)) =
     omega (
       arith,
-      mul_le_mul_right D p.r_high,
-      mul_le_mul_left c (factor_low p),
+      mul-le-mul_right D p.r_high,
+      mul-le-mul_left c (factor_low p),
       p.c_high,
       aa,
       ap (λ (n : ℕ). c * n) aa,
-      mul_le_mul_left (B * Q) (small p),
+      mul-le-mul_left (B * Q) (small p),
       ap (λ (n : ℕ). n * c) p.scale,
       ap (λ (n : ℕ). n * (B * M)) p.scale,
-      mul_le_mul_left (B * B) begins,
-      mul_le_mul_left M p.most,
-      mul_le_mul p.wide ten,
+      mul-le-mul_left (B * B) begins,
+      mul-le-mul_left M p.most,
+      mul-le-mul p.wide ten,
     )
     in
-    lt_of_mul_lt_mul_left (B * B) m
+    lt_of_mul-lt-mul_left (B * B) m
 
 -- what the powers are at a count k of digits, and how they part a divisor
 pub record Parted (k D : ℕ) : Type 0 where
@@ -124,8 +124,8 @@ approximates k D q =
     let c : ℕ = entry k M in
     let X : ℕ = factor k D in
     let five : 5 ≤ a = omega arith in
-    let pos : 0 < a * a = omega (arith, mul_le_mul five five) in
-    let bb : 0 < 10 ^ (2 * k) = omega (arith, q.second, mul_le_mul q.wide q.wide) in
+    let pos : 0 < a * a = omega (arith, mul-le-mul five five) in
+    let bb : 0 < 10 ^ (2 * k) = omega (arith, q.second, mul-le-mul q.wide q.wide) in
     let p : Parts B (10 ^ (7 - 2 * k)) M u (B - 1 - u) (D % 10 ^ (7 - 2 * k)) a c (table_reciprocal k D) X D =
     record {
       scale = q.scale;
@@ -136,11 +136,11 @@ approximates k D q =
       rest = omega (arith, q.next);
       last = q.last;
       a_is = refl;
-      c_low = rw (← q.fourth) (div_mul_le_self (10 ^ (4 * k)) (a * a));
-      c_high = rw (← q.fourth) (lt_div_mul_add pos);
+      c_low = rw (← q.fourth) (div-mul-le_self (10 ^ (4 * k)) (a * a));
+      c_high = rw (← q.fourth) (lt-div-mul-add pos);
       x_is = omega (arith, q.next);
-      r_low = rw (← q.second) (div_mul_le_self (c * X) (10 ^ (2 * k)));
-      r_high = rw (← q.second) (lt_div_mul_add bb);
+      r_low = rw (← q.second) (div-mul-le_self (c * X) (10 ^ (2 * k)));
+      r_high = rw (← q.second) (lt-div-mul-add bb);
       d_is = q.d_is;
     }
     in

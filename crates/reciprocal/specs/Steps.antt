@@ -1,8 +1,8 @@
 -- A layer of Newton's step approximates if the source below does.
 -- Assumes nothing.
 use Rattle.std.specs.Prelude.{◌≡◌, ℕ, zero, suc, ◌+◌, ◌-◌, ◌*◌, ◌/◌, ◌^◌, ◌<◌, ◌≤◌, min}
-use Rattle.std.proofs.Common.{ap, subst, arith, mul_le_mul, mul_le_mul_left, mul_le_mul_right, mul_pos, div_mul_le_self, div_lt_iff_lt_mul, pow_add}
-use Rattle.std.proofs.Math.Nat.{lt_of_mul_lt_mul_left, lt_div_mul_add, one_le_pow}
+use Rattle.std.proofs.Common.{ap, subst, arith, mul-le-mul, mul-le-mul_left, mul-le-mul_right, mul-pos, div-mul-le_self, div-lt_iff_lt-mul, pow-add}
+use Rattle.std.proofs.Math.Nat.{lt_of_mul-lt-mul_left, lt-div-mul-add, one-le-pow}
 use Rattle.reciprocal.specs.Sources.{Approximates}
 use Rattle.reciprocal.specs.Layers.{finer, places, gap, refined, cut, layered}
 
@@ -35,21 +35,21 @@ square {W} {K} {P} l = omega (arith, ap (λ (n : ℕ). n * n) l.lacks, ap (λ (n
 
 -- r * V * D * K, below the square of the scale and near it
 product_high : {W K P D r S t V s : ℕ} → Step W K P D r S t V s → (r * D) * (V * K) < (W * K) * (1000000 * P)
-product_high {D = D} {r} l = omega (arith, mul_le_mul_left (r * D) (gap_high l), mul_pos l.some l.some, square l)
+product_high {D = D} {r} l = omega (arith, mul-le-mul_left (r * D) (gap_high l), mul-pos l.some l.some, square l)
 
 product_low : {W K P D r S t V s : ℕ} → Step W K P D r S t V s → (W * K) * (1000000 * P) ≤ (r * D) * (V * K) + r * D * K + S * S
-product_low {D = D} {r} l = omega (arith, mul_le_mul_left (r * D) (gap_low l), square l)
+product_low {D = D} {r} l = omega (arith, mul-le-mul_left (r * D) (gap_low l), square l)
 
 -- the answer is below, the product that makes it fits, and the answer is near
 short : {W K P D r S t V s : ℕ} → Step W K P D r S t V s → s * D < 1000000 * P
 short {W} {K} {P} {D} {s = s} l =
-    let m : (W * K) * (s * D) < (W * K) * (1000000 * P) = omega (arith, mul_le_mul_right (K * D) l.s_low, product_high l) in
-    lt_of_mul_lt_mul_left (W * K) m
+    let m : (W * K) * (s * D) < (W * K) * (1000000 * P) = omega (arith, mul-le-mul_right (K * D) l.s_low, product_high l) in
+    lt_of_mul-lt-mul_left (W * K) m
 
 fits : {W K P D r S t V s : ℕ} → Step W K P D r S t V s → r * V < W * P
 fits {W} {K} {P} {D} {r} {V = V} l =
-    let m : (1000000 * K) * (r * V) < (1000000 * K) * (W * P) = omega (arith, mul_le_mul_right (r * V * K) l.least, product_high l) in
-    lt_of_mul_lt_mul_left (1000000 * K) m
+    let m : (1000000 * K) * (r * V) < (1000000 * K) * (W * P) = omega (arith, mul-le-mul_right (r * V * K) l.least, product_high l) in
+    lt_of_mul-lt-mul_left (1000000 * K) m
 
 close : {W K P D r S t V s : ℕ} → Step W K P D r S t V s → 2 * (1000000 * P) < 11 * D + 2 * (s * D)
 close {W} {K} {P} {D} {r} {S} {s = s} l =
@@ -60,16 +60,16 @@ close {W} {K} {P} {D} {r} {S} {s = s} l =
     omega (
       arith,
       product_low l,
-      mul_le_mul_right (K * D) l.s_high,
-      mul_le_mul two two,
-      mul_le_mul_right D l.wide,
-      mul_le_mul_left K below,
-      mul_le_mul_left (W * K) l.least,
+      mul-le-mul_right (K * D) l.s_high,
+      mul-le-mul two two,
+      mul-le-mul_right D l.wide,
+      mul-le-mul_left K below,
+      mul-le-mul_left (W * K) l.least,
       ap (λ (n : ℕ). K * n) l.scale,
-      mul_pos l.unit d,
+      mul-pos l.unit d,
     )
     in
-    lt_of_mul_lt_mul_left (W * K) m
+    lt_of_mul-lt-mul_left (W * K) m
 
 -- the powers at a claim: equations and orders of numerals, once the claim is one
 record Sizes (G : ℕ) : Type 0 where
@@ -108,11 +108,11 @@ refines G D r g h lo hi k =
     let K : ℕ = 10 ^ (G + 8 - places G) in
     let P : ℕ = 10 ^ places G in
     let ten : 0 < 10 = omega arith in
-    let w : 0 < W = one_le_pow (G + 2) 10 ten in
-    let u : 0 < K = one_le_pow (G + 8 - places G) 10 ten in
+    let w : 0 < W = one-le-pow (G + 2) 10 ten in
+    let u : 0 < K = one-le-pow (G + 8 - places G) 10 ten in
     let b : r * D < K * P = rw z.full at k.below in
     let m : D * r < P * K = omega arith in
-    let kept : D * r / K < P = (div_lt_iff_lt_mul u).1 m in
+    let kept : D * r / K < P = (div-lt_iff_lt-mul u).1 m in
     let l : Step W K P D r (K * P - r * D) (D * r / K) (gap G D r) (refined G D r) =
     record {
       scale = z.scale;
@@ -122,11 +122,11 @@ refines G D r g h lo hi k =
       some = omega arith;
       lacks = omega arith;
       near = rw z.full at k.near;
-      t_low = div_mul_le_self (D * r) K;
-      t_high = lt_div_mul_add u;
+      t_low = div-mul-le_self (D * r) K;
+      t_high = lt-div-mul-add u;
       gap_is = omega (arith, kept);
-      s_low = div_mul_le_self (r * gap G D r) W;
-      s_high = lt_div_mul_add w;
+      s_low = div-mul-le_self (r * gap G D r) W;
+      s_high = lt-div-mul-add w;
     }
     in
     record {
@@ -152,20 +152,20 @@ computes G D r m K P g h lo hi k em eK eP =
 shorter : (E N D r c : ℕ) → 1 ≤ E → c * E ≤ r → r < c * E + E → r * D < E * N → 2 * (E * N) < 11 * D + 2 * (r * D)
     → (c * D < N) × (2 * N < 11 * D + 2 * (c * D))
 shorter E N D r c one lo hi b n =
-    let m : E * (c * D) < E * N = omega (arith, mul_le_mul_right D lo) in
-    let p : E * (2 * N) < E * (11 * D + 2 * (c * D)) = omega (arith, mul_le_mul_right D hi, mul_le_mul_right D one) in
-    (lt_of_mul_lt_mul_left E m, lt_of_mul_lt_mul_left E p)
+    let m : E * (c * D) < E * N = omega (arith, mul-le-mul_right D lo) in
+    let p : E * (2 * N) < E * (11 * D + 2 * (c * D)) = omega (arith, mul-le-mul_right D hi, mul-le-mul_right D one) in
+    (lt_of_mul-lt-mul_left E m, lt_of_mul-lt-mul_left E p)
 
 -- the cut answer approximates at a claim of at most six
 pub cuts : (G D r : ℕ) → Approximates G D r → Approximates (min G 6) D (cut G r)
 cuts G D r k =
     let E : ℕ = 10 ^ (G - 6) in
     let N : ℕ = 10 ^ (min G 6 + 8) in
-    let e : 10 ^ (G + 8) ≡ E * N = rw (← pow_add 10 (G - 6) (min G 6 + 8)) (ap (λ (n : ℕ). 10 ^ n) (omega arith)) in
-    let pos : 1 ≤ E = one_le_pow (G - 6) 10 (omega arith) in
+    let e : 10 ^ (G + 8) ≡ E * N = rw (← pow-add 10 (G - 6) (min G 6 + 8)) (ap (λ (n : ℕ). 10 ^ n) (omega arith)) in
+    let pos : 1 ≤ E = one-le-pow (G - 6) 10 (omega arith) in
     let b : r * D < E * N = rw e at k.below in
     let n : 2 * (E * N) < 11 * D + 2 * (r * D) = omega (arith, k.near, b, e) in
-    let s = shorter E N D r (r / E) pos (div_mul_le_self r E) (lt_div_mul_add pos) b n in
+    let s = shorter E N D r (r / E) pos (div-mul-le_self r E) (lt-div-mul-add pos) b n in
     record { below = s.0; near = omega (arith, s.0, s.1) }
 
 -- a layer over any claim

@@ -1,5 +1,5 @@
 -- One whole number alone is what a mode means. Assumes nothing.
-use Rattle.std.proofs.Common.{◌≡◌, ℕ, suc, ◌+◌, ◌-◌, ◌*◌, ◌%◌, ◌<◌, ◌≤◌, Bool, true, false, ◌⊎◌, ℤ, pos, negsuc, ◌+ℤ◌, ◌-ℤ◌, ◌*ℤ◌, nat_abs, ◌≤ℤ◌, ◌<ℤ◌, MatchBool, sym, ap, ◌∙◌, inl, inr, mul_le_mul_right, arith}
+use Rattle.std.proofs.Common.{◌≡◌, ℕ, suc, ◌+◌, ◌-◌, ◌*◌, ◌%◌, ◌<◌, ◌≤◌, Bool, true, false, ◌⊎◌, ℤ, pos, negsuc, ◌+ℤ◌, ◌-ℤ◌, ◌*ℤ◌, nat_abs, ◌≤ℤ◌, ◌<ℤ◌, MatchBool, sym, ap, ◌∙◌, inl, inr, mul-le-mul_right, arith}
 use lib.Signed.{lt_z}
 use borrow.Author.Differences.{up, down, product_is, same_in}
 use Rattle.std.proofs.lemmas.Int.{ints}
@@ -13,7 +13,7 @@ abbrev left : ℤ → ℤ → ℕ
 left z w = up z + down w
 
 less : (a k d : ℕ) → a * d < k * d → a < k
-less a k d h = elim (cases_lt a k) [ inl l ↦ l | inr l ↦ absurd (omega (arith, mul_le_mul_right d l)) ]
+less a k d h = elim (cases_lt a k) [ inl l ↦ l | inr l ↦ absurd (omega (arith, mul-le-mul_right d l)) ]
 
 -- less than one step apart in parts
 not_more : (z w : ℤ) (d : ℕ) → (z *ℤ pos d) <ℤ (w *ℤ pos d +ℤ pos d) → left z w ≤ left w z
@@ -43,7 +43,7 @@ record Middle (n z w : ℤ) (d : ℕ) : Type 0 where
 
 middle : (n z w : ℤ) (d : ℕ) → 0 < d → left z w < left w z → 2 * nat_abs (z *ℤ pos d -ℤ n) ≤ d → 2 * nat_abs (w *ℤ pos d -ℤ n) ≤ d → Middle n z w d
 middle n z w d h l a b =
-    let m : suc (left z w) * d ≤ left w z * d = mul_le_mul_right d l in
+    let m : suc (left z w) * d ≤ left w z * d = mul-le-mul_right d l in
     let k : left w z * d < suc (suc (left z w)) * d = omega (arith, ints, product_is z (pos d), product_is w (pos d)) in
     let e : left w z ≡ suc (left z w) = omega (arith, less (left w z) (suc (suc (left z w))) d k) in
     let t : left w z * d ≡ suc (left z w) * d = ap (λ x. x * d) e in
@@ -83,7 +83,7 @@ sides : (x y : ℤ) (d : ℕ) → y ≡ x +ℤ pos 1 → (pos 0 ≤ℤ (x *ℤ p
 sides (pos n) y d e = inl (omega (arith, ints))
 sides (negsuc n) y d e =
     let l : up y ≤ down y = omega (arith, ints) in
-    inr (omega (arith, ints, product_is y (pos d), mul_le_mul_right d l))
+    inr (omega (arith, ints, product_is y (pos d), mul-le-mul_right d l))
 
 away_no : (n a b : ℤ) → a <ℤ n → n <ℤ b → (pos 0 ≤ℤ a) ⊎ (b ≤ℤ pos 0) → nat_abs n ≤ nat_abs a → nat_abs n ≤ nat_abs b → ⊥
 away_no n a b p q (inl s) u v = omega (arith, ints)

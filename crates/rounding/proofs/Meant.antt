@@ -1,9 +1,9 @@
 -- What the modes make of a magnitude is what they mean of the signed value. Assumes nothing.
-use Rattle.std.proofs.Common.{◌≡◌, ℕ, zero, suc, ◌+◌, ◌*◌, ◌/◌, ◌%◌, ◌<◌, ◌≤◌, cond, eqb, ltb, ◌⊎◌, ℤ, pos, negsuc, ◌-ℤ◌, ◌*ℤ◌, neg_ℤ, nat_abs, MatchBool, sym, ap, ◌∙◌, subst, inl, inr, mod_lt, lt_of_mul_lt_mul_right, zero_mul, arith}
-use native.Mathlib.Nat.{div_add_mod}
+use Rattle.std.proofs.Common.{◌≡◌, ℕ, zero, suc, ◌+◌, ◌*◌, ◌/◌, ◌%◌, ◌<◌, ◌≤◌, cond, eqb, ltb, ◌⊎◌, ℤ, pos, negsuc, ◌-ℤ◌, ◌*ℤ◌, neg_ℤ, nat_abs, MatchBool, sym, ap, ◌∙◌, subst, inl, inr, mod-lt, lt_of_mul-lt-mul_right, zero-mul, arith}
+use native.Mathlib.Nat.{div-add-mod}
 use borrow.Author.Differences.{product_is}
 use Rattle.std.proofs.lemmas.Int.{ints}
-use Rattle.std.proofs.lemmas.Bool.{cases_lt, cases_eq, cases_order, cond_both, cond_true, cond_false, lt_ltb, le_ltb, eq_eqb, ne_eqb, eqb_true, eqb_false}
+use Rattle.std.proofs.lemmas.Bool.{cases_lt, cases_eq, cases_order, cond_both, cond-true, cond-false, lt-ltb, le-ltb, eq-eqb, ne_eqb, eqb-true, eqb-false}
 use Rattle.rounding.specs.declared.sign.Sign.{Sign}
 use Rattle.rounding.specs.declared.sign.Sign.TheVariants.{Plus, Minus}
 use Rattle.rounding.specs.declared.mode.Mode.{Mode}
@@ -16,20 +16,20 @@ use Rattle.rounding.specs.Modes.{signed, Under, Over, Closest, Rounds}
 -- a rest's place, told by two comparisons
 
 pub placed_whole : (r m : ℕ) → r ≡ 0 → placed r m ≡ Whole
-placed_whole r m e = cond_true (eqb r 0) _ _ (eq_eqb r 0 e)
+placed_whole r m e = cond-true (eqb r 0) _ _ (eq-eqb r 0 e)
 
 pub placed_below : (r m : ℕ) → 0 < r → 2 * r < m → placed r m ≡ Below
-placed_below r m h l = cond_false (eqb r 0) _ _ (ne_eqb r 0 (λ e. omega arith)) ∙ cond_true (ltb (2 * r) m) _ _ (lt_ltb _ _ l)
+placed_below r m h l = cond-false (eqb r 0) _ _ (ne_eqb r 0 (λ e. omega arith)) ∙ cond-true (ltb (2 * r) m) _ _ (lt-ltb _ _ l)
 
 pub placed_middle : (r m : ℕ) → 0 < r → 2 * r ≡ m → placed r m ≡ Middle
 placed_middle r m h l =
-    cond_false (eqb r 0) _ _ (ne_eqb r 0 (λ e. omega arith)) ∙ cond_false (ltb (2 * r) m) _ _ (le_ltb _ _ (omega arith)) ∙
-    cond_false (ltb m (2 * r)) _ _ (le_ltb _ _ (omega arith))
+    cond-false (eqb r 0) _ _ (ne_eqb r 0 (λ e. omega arith)) ∙ cond-false (ltb (2 * r) m) _ _ (le-ltb _ _ (omega arith)) ∙
+    cond-false (ltb m (2 * r)) _ _ (le-ltb _ _ (omega arith))
 
 pub placed_above : (r m : ℕ) → m < 2 * r → placed r m ≡ Above
 placed_above r m l =
-    cond_false (eqb r 0) _ _ (ne_eqb r 0 (λ e. omega arith)) ∙ cond_false (ltb (2 * r) m) _ _ (le_ltb _ _ (omega arith)) ∙
-    cond_true (ltb m (2 * r)) _ _ (lt_ltb _ _ l)
+    cond-false (eqb r 0) _ _ (ne_eqb r 0 (λ e. omega arith)) ∙ cond-false (ltb (2 * r) m) _ _ (le-ltb _ _ (omega arith)) ∙
+    cond-true (ltb m (2 * r)) _ _ (lt-ltb _ _ l)
 
 -- what a position tells of the rest
 abbrev Tells : Position → ℕ → ℕ → Type 0
@@ -144,8 +144,8 @@ out Above s t = goes_out s (omega arith)
 even_tie : {n m c r : ℕ} → Split n m c r → 2 * r ≡ m → Near n m (cond (is_odd c) (c + 1) c) (cond (is_odd c) (c + 1) c % 2 ≡ 0)
 even_tie {n} {m} {c} {r} s h =
     cond_both (is_odd c) (c + 1) c (λ x. Near n m x (x % 2 ≡ 0))
-    (λ e. goes_near _ s (omega arith) (λ _. omega (arith, eqb_true (c % 2) 1 e)))
-    (λ e. stays_near _ s (omega arith) (λ _. even (c) (eqb_false (c % 2) 1 e)))
+    (λ e. goes_near _ s (omega arith) (λ _. omega (arith, eqb-true (c % 2) 1 e)))
+    (λ e. stays_near _ s (omega arith) (λ _. even (c) (eqb-false (c % 2) 1 e)))
   where
     even : (c : ℕ) → (c % 2 ≡ 1 → ⊥) → c % 2 ≡ 0
     even c f = elim (cases_eq (c % 2) 1) [ inl e ↦ absurd (f e) | inr e ↦ omega arith ]
@@ -185,8 +185,8 @@ minus TowardZero (suc n) m c h = over_minus (suc n) m c h
 minus AwayFromZero zero m c h =
     let t = times m c in
     let l : c * m < 1 * m = omega arith in
-    let z : c ≡ 0 = omega (arith, lt_of_mul_lt_mul_right m l) in
-    let e : c * m ≡ 0 = ap (λ x. x * m) z ∙ zero_mul m in
+    let z : c ≡ 0 = omega (arith, lt_of_mul-lt-mul_right m l) in
+    let e : c * m ≡ 0 = ap (λ x. x * m) z ∙ zero-mul m in
     record { not_below = omega (arith, ints); within = omega (arith, ints) }
 minus AwayFromZero (suc n) m c h = under_minus (suc n) m c h
 
@@ -196,8 +196,8 @@ plus NearestZero n m c h = closest_plus n m c (c * m ≤ n) _ (λ l. l) h
 plus NearestAway n m c h = closest_plus n m c (n ≤ c * m) _ (λ l. l) h
 plus Ceiling n m c h = over_plus n m c h
 plus Floor n m c h = under_plus n m c h
-plus TowardZero n m c h = subst (λ b. MatchBool b (Over (pos n) m (pos c)) (Under (pos n) m (pos c))) (sym (le_ltb n 0 (omega arith))) (under_plus n m c h)
-plus AwayFromZero n m c h = subst (λ b. MatchBool b (Under (pos n) m (pos c)) (Over (pos n) m (pos c))) (sym (le_ltb n 0 (omega arith))) (over_plus n m c h)
+plus TowardZero n m c h = subst (λ b. MatchBool b (Over (pos n) m (pos c)) (Under (pos n) m (pos c))) (sym (le-ltb n 0 (omega arith))) (under_plus n m c h)
+plus AwayFromZero n m c h = subst (λ b. MatchBool b (Under (pos n) m (pos c)) (Over (pos n) m (pos c))) (sym (le-ltb n 0 (omega arith))) (over_plus n m c h)
 
 both : (mode : Mode) (s : Sign) (n m c : ℕ) → Sized mode s n m c → Rounds mode (signed s n) m (signed s c)
 both mode Plus n m c h = plus mode n m c h
@@ -206,5 +206,5 @@ both mode Minus n m c h = minus mode n m c h
 -- the function is the relation
 pub meant : (mode : Mode) (s : Sign) (n m : ℕ) → 0 < m → Rounds mode (signed s n) m (signed s (rounded mode s n m))
 meant mode s n m h =
-    let cut : Split n m (n / m) (n % m) = record { is = omega (arith, div_add_mod n m); small = mod_lt n h } in
+    let cut : Split n m (n / m) (n % m) = record { is = omega (arith, div-add-mod n m); small = mod-lt n h } in
     both mode s n m (rounded mode s n m) (of mode s (position n m) cut (tells_of (n % m) m))

@@ -1,8 +1,8 @@
 -- What is known of a line, as a text goes on. Assumes nothing.
-use Rattle.std.proofs.Common.{◌≡◌, ℕ, ◌+◌, ◌-◌, ◌^◌, ◌<◌, ◌≤◌, min, eqb, List, [], ◌∷◌, ◌++◌, length, take, set, sym, ap, ◌∙◌, inl, inr, arith, length_append}
-use Rattle.std.proofs.lemmas.List.{take_all, length_take_le, take_append_le, take_more_set}
+use Rattle.std.proofs.Common.{◌≡◌, ℕ, ◌+◌, ◌-◌, ◌^◌, ◌<◌, ◌≤◌, min, eqb, List, [], ◌∷◌, ◌++◌, length, take, set, sym, ap, ◌∙◌, inl, inr, arith, length-append}
+use Rattle.std.proofs.lemmas.List.{take_all, length-take-le, take-append-le, take_more_set}
 use Rattle.std.proofs.lemmas.List.Sums.{fold_push}
-use Rattle.std.proofs.lemmas.Bool.{cases_lt, cases_Bool, cond_true, cond_false}
+use Rattle.std.proofs.lemmas.Bool.{cases_lt, cases_Bool, cond-true, cond-false}
 use Rattle.text.specs.Lines.{Split, and_byte, lines_of, Known, next_known, known_with, known_after, known_in}
 
 -- a byte behind the first 33 does not matter
@@ -11,8 +11,8 @@ kept xs b =
     elim (cases_lt (length xs) 33) [
       | inl h ↦ ap (λ ys. take 33 (ys ++ (b ∷ []))) (take_all 33 xs (omega arith))
       | inr h ↦
-          let l : length (take 33 xs) ≡ 33 = length_take_le 33 xs h in
-          take_append_le 33 (take 33 xs) (b ∷ []) (omega arith) ∙ take_all 33 (take 33 xs) (omega arith) ∙ sym (take_append_le 33 xs (b ∷ []) h)
+          let l : length (take 33 xs) ≡ 33 = length-take-le 33 xs h in
+          take-append-le 33 (take 33 xs) (b ∷ []) (omega arith) ∙ take_all 33 (take 33 xs) (omega arith) ∙ sym (take-append-le 33 xs (b ∷ []) h)
     ]
 
 -- a line that has room, and one that has none
@@ -20,30 +20,30 @@ pub grown : (xs : List ℕ) (n b : ℕ) → n < 33 → length xs ≡ 33 → take
 grown xs n b h l =
     let room : n < length xs = omega arith in
     let some : n ≤ length xs = omega arith in
-    let e : length (take n xs ++ (b ∷ [])) ≡ n + 1 = length_append (take n xs) (b ∷ []) ∙ ap (λ k. k + 1) (length_take_le n xs some) in
+    let e : length (take n xs ++ (b ∷ [])) ≡ n + 1 = length-append (take n xs) (b ∷ []) ∙ ap (λ k. k + 1) (length-take-le n xs some) in
     take_more_set xs n b room ∙ sym (take_all 33 (take n xs ++ (b ∷ [])) (omega arith))
 
 pub full : (xs : List ℕ) (n b : ℕ) → n ≡ 33 → length xs ≡ 33 → take n xs ≡ take 33 (take n xs ++ (b ∷ []))
 full xs n b e l =
     let some : n ≤ length xs = omega arith in
-    let k : length (take n xs) ≡ n = length_take_le n xs some in
-    sym (take_append_le 33 (take n xs) (b ∷ []) (omega arith) ∙ take_all 33 (take n xs) (omega arith))
+    let k : length (take n xs) ≡ n = length-take-le n xs some in
+    sym (take-append-le 33 (take n xs) (b ∷ []) (omega arith) ∙ take_all 33 (take n xs) (omega arith))
 
 same_step : (s : Split) (b : ℕ) → known_after (known_in s) b ≡ known_in (and_byte s b)
 same_step s b =
     elim (cases_Bool (eqb b 10)) [
       | inl e ↦
-          cond_true (eqb b 10) (next_known (known_in s)) (known_with (known_in s) b) e
+          cond-true (eqb b 10) (next_known (known_in s)) (known_with (known_in s) b) e
           ∙ (λ i. record { number = number i; text = [] })
-          ∙ ap known_in (sym (cond_true (eqb b 10) _ _ e))
+          ∙ ap known_in (sym (cond-true (eqb b 10) _ _ e))
       | inr e ↦
-          cond_false (eqb b 10) (next_known (known_in s)) (known_with (known_in s) b) e
+          cond-false (eqb b 10) (next_known (known_in s)) (known_with (known_in s) b) e
           ∙ (λ i. record { number = min (length s.ended + 1) (2 ^ 64 - 1); text = kept s.rest b i })
-          ∙ ap known_in (sym (cond_false (eqb b 10) _ _ e))
+          ∙ ap known_in (sym (cond-false (eqb b 10) _ _ e))
     ]
   where
     number : min (min (length s.ended + 1) (2 ^ 64 - 1) + 1) (2 ^ 64 - 1) ≡ min (length (s.ended ++ (s.rest ∷ [])) + 1) (2 ^ 64 - 1)
-    number = rw (length_append s.ended (s.rest ∷ [])) (omega arith)
+    number = rw (length-append s.ended (s.rest ∷ [])) (omega arith)
 
 -- so whatever text came before, what is known is of the text so far
 pub goes_on : (k l : Known) (b : ℕ) → l ≡ known_after k b → (text : List ℕ) → k ≡ known_in (lines_of text) → l ≡ known_in (lines_of (text ++ (b ∷ [])))

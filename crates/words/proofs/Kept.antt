@@ -1,6 +1,6 @@
 -- What is kept of a line tells whether it is a word, and which. Assumes nothing.
 use Rattle.std.proofs.Common.{◌≡◌, ℕ, List, length, take, sym, ap, ◌∙◌, inl, inr, arith}
-use Rattle.std.proofs.lemmas.List.{take_all, length_take_le}
+use Rattle.std.proofs.lemmas.List.{take_all, length-take-le}
 use Rattle.std.proofs.lemmas.Bool.{cases_lt}
 use Rattle.text.specs.Texts.{word_in}
 use Rattle.text.proofs.Digits.{too_long}
@@ -11,7 +11,7 @@ word_kept : (bs : List ℕ) → word_in (take 33 bs) ≡ word_in bs
 word_kept bs =
     elim (cases_lt 33 (length bs)) [
       | inl h ↦
-          let n : length (take 33 bs) ≡ 33 = length_take_le 33 bs (omega arith) in
+          let n : length (take 33 bs) ≡ 33 = length-take-le 33 bs (omega arith) in
           too_long (take 33 bs) (omega arith) ∙ sym (too_long bs (omega arith))
       | inr h ↦ ap word_in (take_all 33 bs h)
     ]

@@ -2,5 +2,5 @@
 use Rattle.std.proofs.Common.{◌≡◌, length}
 use Rattle.divide.proofs.answer_all.Given as goal
 
-abbrev pub invariant_loop : goal.invariant_loop
-invariant_loop g l = length l.buffer ≡ 4096
+abbrev pub invariant-loop : goal.invariant-loop
+invariant-loop g l = length l.buffer ≡ 4096

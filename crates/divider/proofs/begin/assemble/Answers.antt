@@ -5,15 +5,15 @@ use Rattle.divider.specs.Drafts.{widening}
 use Rattle.divider.proofs.Bracket.{Brackets, brackets, draft_fits, wide_least, wide_most}
 use Rattle.divider.proofs.begin.assemble.Goals as goal
 
-pub bias_requires : goal.bias_requires
-bias_requires c = draft_fits _ _ _ c.requires.divisor.0 c.requires.dividend.1 c.requires.near
+pub bias-requires : goal.bias-requires
+bias-requires c = draft_fits _ _ _ c.requires.divisor.0 c.requires.dividend.1 c.requires.near
 
 -- what holds of the widened dividend holds of the code's
 carried : (P : ℕ → Type 0) (w v : ℕ) → v ≡ w → P w → P v
 carried P w v e h = subst P (sym e) h
 
-pub invariant_of_result : goal.invariant_of_result
-invariant_of_result c =
+pub invariant-of-result : goal.invariant-of-result
+invariant-of-result c =
     let Y : ℕ = c.args.y.digits in
     let D : ℕ = c.args.x.digits in
     let b : Brackets c.widen.result D c.bias.result =
@@ -23,4 +23,4 @@ invariant_of_result c =
     carried (λ w. 0 < w → 10000000 * D ≤ w) _ _ c.widen.ensures (wide_least Y D c.requires.dividend.0 c.requires.divisor.0 c.requires.divisor.1)
     in
     let most : c.widen.result ≤ 99999990 * D = carried (λ w. w ≤ 99999990 * D) _ _ c.widen.ensures (wide_most Y D c.requires.dividend.1 c.requires.divisor.0 c.requires.divisor.1) in
-    (b.some, (b.under, (b.over, ((c.requires.divisor.0, c.requires.divisor.1), (least, (most, omega (arith, c.saturating_sub.ensures, c.zeros_widening.ensures.few)))))))
+    (b.some, (b.under, (b.over, ((c.requires.divisor.0, c.requires.divisor.1), (least, (most, omega (arith, c.saturating-sub.ensures, c.zeros-widening.ensures.few)))))))

@@ -4,12 +4,12 @@ use Rattle.orders.specs.Desks.{Agrees}
 use Rattle.orders.proofs.replaying.replay.Given as goal
 
 -- the desk agrees with the account of the calls so far, and each has a place
-abbrev pub invariant_loop_call : goal.invariant_loop_call
-invariant_loop_call g l =
-    let so_far = course (g.S.Source.claim l.source) l.step (take l.call_index l.calls) in
+abbrev pub invariant-loop-call : goal.invariant-loop-call
+invariant-loop-call g l =
+    let so_far = course (g.S.Source.claim l.source) l.step (take l.call-index l.calls) in
     Agrees l.step so_far.account l.desk
     × (vec_items l.outcomes ≡ so_far.outcomes)
-    × (vec_len l.desk.begun ≤ l.call_index)
-    × (vec_len l.outcomes ≡ l.call_index)
+    × (vec_len l.desk.begun ≤ l.call-index)
+    × (vec_len l.outcomes ≡ l.call-index)
     × (length l.calls ≤ vec_capacity l.desk.begun)
     × (length l.calls ≤ vec_capacity l.outcomes)

@@ -9,20 +9,20 @@ use Rattle.runs.specs.Records.{meant}
 use Rattle.runs.proofs.Posted.{record_taken, record_refused}
 use Rattle.runs.proofs.running.post_record.Goals as goal
 
-pub returns_in_err_draft : goal.returns_in_err_draft
-returns_in_err_draft g c =
-    let y : Datum = datum c.in_ok_dividend.dividend in
-    let x : Datum = datum c.in_ok_dividend.divisor in
-    let o = ap meant (sym c.in_ok_dividend.was) ∙ c.operands.ensures in
-    let h = ap held_result (sym c.in_err_draft.was) ∙ c.begin.ensures.held in
-    let p = err_from_is_err_and c.from_residual_in_err_draft.result c.from_residual_in_err_draft.ensures.1 in
+pub returns-in-err-draft : goal.returns-in-err-draft
+returns-in-err-draft g c =
+    let y : Datum = datum c.in-ok-dividend.dividend in
+    let x : Datum = datum c.in-ok-dividend.divisor in
+    let o = ap meant (sym c.in-ok-dividend.was) ∙ c.operands.ensures in
+    let h = ap held_result (sym c.in-err-draft.was) ∙ c.begin.ensures.held in
+    let p = err_from_is_err_and c.from-residual-in-err-draft.result c.from-residual-in-err-draft.ensures.1 in
     rw (p.1, p.2) (record_refused (g.S.Source.claim c.args.source.now) (g.S.Source.reciprocal c.args.source.now) c.args.setting.now.mode (tally c.args.card.now) _ y x o _ h)
 
 pub returns : goal.returns
 returns g c =
-    let y : Datum = datum c.in_ok_dividend.dividend in
-    let x : Datum = datum c.in_ok_dividend.divisor in
-    let o = ap meant (sym c.in_ok_dividend.was) ∙ c.operands.ensures in
-    let h = ap held_result (sym c.in_ok_draft.was) ∙ c.begin.ensures.held in
+    let y : Datum = datum c.in-ok-dividend.dividend in
+    let x : Datum = datum c.in-ok-dividend.divisor in
+    let o = ap meant (sym c.in-ok-dividend.was) ∙ c.operands.ensures in
+    let h = ap held_result (sym c.in-ok-draft.was) ∙ c.begin.ensures.held in
     record_taken (g.S.Source.claim c.args.source.now) (g.S.Source.reciprocal c.args.source.now) c.args.setting.now.mode (tally c.args.card.now) _ y x o
-    (held c.in_ok_draft.draft) _ h c.in_ok_draft.ensures.stands c.post.ensures
+    (held c.in-ok-draft.draft) _ h c.in-ok-draft.ensures.stands c.post.ensures

@@ -25,16 +25,16 @@ returns c =
     λ n d t.
     let mode : Mode = c.args.setting.now.mode in
     let old : Tally = tally c.args.self.now in
-    with_card c.with_posting.ensures
-    ∙ ap (λ j. posted_steps mode c.in_steps_sign.result.0 j old) (sym c.in_ok_split.was)
-    ∙ posted_so mode _ n d old c.in_steps_sign.result c.judge.result (c.in_steps_sign.ensures.value n d t) c.judge.ensures.value
+    with_card c.with-posting.ensures
+    ∙ ap (λ j. posted_steps mode c.in-steps-sign.result.0 j old) (sym c.in-ok-split.was)
+    ∙ posted_so mode _ n d old c.in-steps-sign.result c.judge.result (c.in-steps-sign.ensures.value n d t) c.judge.ensures.value
 
-pub returns_in_err_split : goal.returns_in_err_split
-returns_in_err_split c =
+pub returns-in-err-split : goal.returns-in-err-split
+returns-in-err-split c =
     λ n d t.
     let mode : Mode = c.args.setting.now.mode in
     let old : Tally = tally c.args.self.now in
-    let p = err_from_is_err_and c.from_residual.result c.from_residual.ensures.1 in
+    let p = err_from_is_err_and c.from-residual.result c.from-residual.ensures.1 in
     rw (p.1, p.2)
-    (ap (λ j. posted_steps mode c.in_steps_sign.result.0 j old) (sym c.in_err_split.was)
-    ∙ posted_so mode _ n d old c.in_steps_sign.result c.judge.result (c.in_steps_sign.ensures.value n d t) c.judge.ensures.value)
+    (ap (λ j. posted_steps mode c.in-steps-sign.result.0 j old) (sym c.in-err-split.was)
+    ∙ posted_so mode _ n d old c.in-steps-sign.result c.judge.result (c.in-steps-sign.ensures.value n d t) c.judge.ensures.value)

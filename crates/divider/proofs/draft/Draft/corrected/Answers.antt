@@ -6,8 +6,8 @@ use Rattle.divider.proofs.draft.Draft.corrected.Goals as goal
 bracket : (d : Draft) → Brackets d.widened d.divisor d.biased
 bracket d = record { some = d.some; under = d.under; over = d.over }
 
-pub returns_then_self : goal.returns_then_self
-returns_then_self c = one_less _ _ _ (bracket c.args.self.now) c.if_self.true
+pub returns-then-self : goal.returns-then-self
+returns-then-self c = one_less _ _ _ (bracket c.args.self.now) c.if-self.true
 
-pub returns_else_self : goal.returns_else_self
-returns_else_self c = same _ _ _ (bracket c.args.self.now) c.if_self.false
+pub returns-else-self : goal.returns-else-self
+returns-else-self c = same _ _ _ (bracket c.args.self.now) c.if-self.false

@@ -10,17 +10,17 @@ divisor_pos d = omega (arith, d.seven)
 fits_under : {x : ℕ} → x < 100000000 → Fits w32 x
 fits_under h = search (rules, arith)
 
-pub overflow_cast_result : goal.overflow_cast_result
-overflow_cast_result c =
+pub overflow-cast-result : goal.overflow-cast-result
+overflow-cast-result c =
     let d = c.args.self.now in
     fits_under (omega (arith, digits_most d.widened d.divisor c.corrected.result (divisor_pos d) d.most c.corrected.ensures))
 
-pub invariant_of_result : goal.invariant_of_result
-invariant_of_result c =
+pub invariant-of-result : goal.invariant-of-result
+invariant-of-result c =
     let d = c.args.self.now in (
       digits_least d.widened d.divisor c.corrected.result (divisor_pos d) d.least c.corrected.ensures,
       (
-        subst (λ b. c.corrected.result + cond b 1 0 + 10 ≤ 100000000) (sym c.leaves_remainder.ensures)
+        subst (λ b. c.corrected.result + cond b 1 0 + 10 ≤ 100000000) (sym c.leaves-remainder.ensures)
             (digits_most d.widened d.divisor c.corrected.result (divisor_pos d) d.most c.corrected.ensures),
         (d.far, tt),
       ),

@@ -7,8 +7,8 @@ use Rattle.orders.specs.Desks.{ComesTo}
 use Rattle.orders.proofs.Moves.{Taken, none_comes, posted_comes, some_comes, taken}
 use Rattle.orders.proofs.desk.Desk.post.Goals as goal
 
-pub returns_in_Some : goal.returns_in_Some
-returns_in_Some c =
+pub returns-in-Some : goal.returns-in-Some
+returns-in-Some c =
     let n = c.args.number in
     let k = c.args.self.now in
     let l = c.take.new.self in
@@ -16,19 +16,19 @@ returns_in_Some c =
     let t : Taken n k l = record { drafts = c.take.ensures.drafts; card = c.take.ensures.card; setting = c.take.ensures.setting } in
     record {
       follows = λ claim s a g.
-          some_comes s n a k l g t (λ o. draft_posted s o (ended n a)) c.in_Some.draft _ m (sym c.in_Some.is ∙ c.take.ensures.value)
-          (λ p h. subst (λ o. ComesTo s (draft_posted s (Some p) (ended n a)) o m) (sym c.done_or_refused.ensures)
-          (posted_comes s (ended n a) l (taken s n a k l g t) p c.in_Some.draft h c.post.result c.post.new.self c.post.ensures));
+          some_comes s n a k l g t (λ o. draft_posted s o (ended n a)) c.in-Some.draft _ m (sym c.in-Some.is ∙ c.take.ensures.value)
+          (λ p h. subst (λ o. ComesTo s (draft_posted s (Some p) (ended n a)) o m) (sym c.done-or-refused.ensures)
+          (posted_comes s (ended n a) l (taken s n a k l g t) p c.in-Some.draft h c.post.result c.post.new.self c.post.ensures));
       room = record { cap = c.take.ensures.room.cap; len = c.take.ensures.room.len };
     }
 
-pub returns_in_None : goal.returns_in_None
-returns_in_None c =
+pub returns-in-None : goal.returns-in-None
+returns-in-None c =
     let n = c.args.number in
     let k = c.args.self.now in
     let l = c.take.new.self in
     let t : Taken n k l = record { drafts = c.take.ensures.drafts; card = c.take.ensures.card; setting = c.take.ensures.setting } in
     record {
-      follows = λ claim s a g. none_comes s n a k l g t (λ o. draft_posted s o (ended n a)) refl (sym c.in_None.is ∙ c.take.ensures.value);
+      follows = λ claim s a g. none_comes s n a k l g t (λ o. draft_posted s o (ended n a)) refl (sym c.in-None.is ∙ c.take.ensures.value);
       room = c.take.ensures.room;
     }

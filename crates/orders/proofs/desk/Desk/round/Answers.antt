@@ -5,27 +5,27 @@ use Rattle.accounts.specs.Account.{draft_rounded, ended}
 use Rattle.orders.proofs.Moves.{Taken, none_comes, rounded_comes, some_comes, taken}
 use Rattle.orders.proofs.desk.Desk.round.Goals as goal
 
-pub returns_in_Some : goal.returns_in_Some
-returns_in_Some c =
+pub returns-in-Some : goal.returns-in-Some
+returns-in-Some c =
     let n = c.args.number in
     let k = c.args.self.now in
     let l = c.take.new.self in
-    let q = c.round_quotient in
+    let q = c.round-quotient in
     let t : Taken n k l = record { drafts = c.take.ensures.drafts; card = c.take.ensures.card; setting = c.take.ensures.setting } in
     record {
       follows = λ claim s a g.
-          some_comes s n a k l g t (λ o. draft_rounded o (ended n a)) c.in_Some.draft _ _ (sym c.in_Some.is ∙ c.take.ensures.value)
-          (λ p h. rounded_comes s (ended n a) l (taken s n a k l g t) p c.in_Some.draft h q.result c.write_word.result q.new.self c.write_word.ensures.word q.ensures.value q.ensures.raised);
+          some_comes s n a k l g t (λ o. draft_rounded o (ended n a)) c.in-Some.draft _ _ (sym c.in-Some.is ∙ c.take.ensures.value)
+          (λ p h. rounded_comes s (ended n a) l (taken s n a k l g t) p c.in-Some.draft h q.result c.write-word.result q.new.self c.write-word.ensures.word q.ensures.value q.ensures.raised);
       room = record { cap = c.take.ensures.room.cap; len = c.take.ensures.room.len };
     }
 
-pub returns_in_None : goal.returns_in_None
-returns_in_None c =
+pub returns-in-None : goal.returns-in-None
+returns-in-None c =
     let n = c.args.number in
     let k = c.args.self.now in
     let l = c.take.new.self in
     let t : Taken n k l = record { drafts = c.take.ensures.drafts; card = c.take.ensures.card; setting = c.take.ensures.setting } in
     record {
-      follows = λ claim s a g. none_comes s n a k l g t (λ o. draft_rounded o (ended n a)) refl (sym c.in_None.is ∙ c.take.ensures.value);
+      follows = λ claim s a g. none_comes s n a k l g t (λ o. draft_rounded o (ended n a)) refl (sym c.in-None.is ∙ c.take.ensures.value);
       room = c.take.ensures.room;
     }

@@ -4,10 +4,10 @@ use Rattle.std.proofs.Common.{◌≤◌, length, None, vec_items, sym, refl, ari
 use Rattle.std.proofs.lemmas.List.{get_or_past, set_past}
 use Rattle.orders.proofs.desk.Desk.take.Goals as goal
 
-pub returns_else_number_len : goal.returns_else_number_len
-returns_else_number_len c =
+pub returns-else-number-len : goal.returns-else-number-len
+returns-else-number-len c =
     let v = c.args.self.now.begun in
-    let l : length (vec_items v) ≤ c.args.number = omega (arith, v.ok.0, c.len.ensures, c.if_number_len.false) in
+    let l : length (vec_items v) ≤ c.args.number = omega (arith, v.ok.0, c.len.ensures, c.if-number-len.false) in
     record {
       value = sym (get_or_past (vec_items v) c.args.number None l);
       drafts = sym (set_past (vec_items v) c.args.number None l);

@@ -23,64 +23,64 @@ cut_by : (q : ℕ) (left : Bool) (place n d digits u : ℕ) → (0 < q → 10000
     → By decimal32 104 q left place n d (place + digits - 104) digits 9 u
 cut_by q left place n d digits u least most z c e t = record { at = cut_at q left place n d digits least most z c t; unit = e; enough = omega arith }
 
-pub returns_then_digits_eq0 : goal.returns_then_digits_eq0
-returns_then_digits_eq0 c =
+pub returns-then-digits-eq0 : goal.returns-then-digits-eq0
+returns-then-digits-eq0 c =
     record {
       value = λ n d t.
-          ap (λ x. finite 0 x c.none.result) c.brought_in.ensures ∙ ap (finite 0 (min 191 c.args.ideal)) c.none.ensures
-          ∙ way_zero decimal32 c.args.mode c.args.sign c.args.ideal c.if_digits_eq0.true t;
-      small = (omega arith, omega (arith, c.brought_in.ensures));
+          ap (λ x. finite 0 x c.none.result) c.brought-in.ensures ∙ ap (finite 0 (min 191 c.args.ideal)) c.none.ensures
+          ∙ way_zero decimal32 c.args.mode c.args.sign c.args.ideal c.if-digits-eq0.true t;
+      small = (omega arith, omega (arith, c.brought-in.ensures));
       definition = stands;
     }
 
-pub returns_then_exponent_gt191 : goal.returns_then_exponent_gt191
-returns_then_exponent_gt191 c =
+pub returns-then-exponent-gt191 : goal.returns-then-exponent-gt191
+returns-then-exponent-gt191 c =
     let l = c.args.self in
     record {
       value = λ n d t.
           c.overflow.ensures
           ∙ way_over c.args.mode c.args.sign c.args.ideal
-          (cut_at l.digits l.left l.place n d c.digits_cut_gone.result l.least l.most c.if_digits_eq0.false c.digits_cut_gone.ensures.cut t) (omega arith);
+          (cut_at l.digits l.left l.place n d c.digits-cut-gone.result l.least l.most c.if-digits-eq0.false c.digits-cut-gone.ensures.cut t) (omega arith);
       small = subst (λ r. InRange r.magnitude) (sym c.overflow.ensures) (overflow_in c.args.mode c.args.sign);
       definition = stands;
     }
 
-pub returns_then_is_exact : goal.returns_then_is_exact
-returns_then_is_exact c =
+pub returns-then-is-exact : goal.returns-then-is-exact
+returns-then-is-exact c =
     let l = c.args.self in
-    let u : ℕ = c.unit_of_unit.result in
-    let w : is_whole (sticky (l.digits % u) u l.left) ≡ true = ap is_whole (sym c.locate_position.ensures) ∙ sym c.if_is_exact.ensures in
-    let f : l.digits / u < 10000000 = floor_small l.digits u 10000000 (omega (arith, l.most)) c.unit_of_unit.ensures.least in
+    let u : ℕ = c.unit-of-unit.result in
+    let w : is_whole (sticky (l.digits % u) u l.left) ≡ true = ap is_whole (sym c.locate-position.ensures) ∙ sym c.if-is-exact.ensures in
+    let f : l.digits / u < 10000000 = floor_small l.digits u 10000000 (omega (arith, l.most)) c.unit-of-unit.ensures.least in
     record {
       value = λ n d t.
-          ap (finite c.strip_c.result.0 c.strip_c.result.1) c.none_then_is_exact.ensures
-          ∙ way_exact c.args.mode c.args.sign c.args.ideal c.strip_c.result.0 c.strip_c.result.1
-          (cut_by l.digits l.left l.place n d c.digits_cut_gone.result u l.least l.most c.if_digits_eq0.false c.digits_cut_gone.ensures.cut c.unit_of_unit.ensures.value t)
-          (omega arith) w c.strip_c.ensures;
-      small = (omega (arith, f, c.strip_c.ensures.less), c.strip_c.ensures.within);
+          ap (finite c.strip-c.result.0 c.strip-c.result.1) c.none-then-is-exact.ensures
+          ∙ way_exact c.args.mode c.args.sign c.args.ideal c.strip-c.result.0 c.strip-c.result.1
+          (cut_by l.digits l.left l.place n d c.digits-cut-gone.result u l.least l.most c.if-digits-eq0.false c.digits-cut-gone.ensures.cut c.unit-of-unit.ensures.value t)
+          (omega arith) w c.strip-c.ensures;
+      small = (omega (arith, f, c.strip-c.ensures.less), c.strip-c.ensures.within);
       definition = stands;
     }
 
-pub raise_c_requires : goal.raise_c_requires
-raise_c_requires c = floor_small c.args.self.digits c.unit_of_unit.result 10000000 (omega (arith, c.args.self.most)) c.unit_of_unit.ensures.least
+pub raise-c-requires : goal.raise-c-requires
+raise-c-requires c = floor_small c.args.self.digits c.unit-of-unit.result 10000000 (omega (arith, c.args.self.most)) c.unit-of-unit.ensures.least
 
 pub returns : goal.returns
 returns c =
     let l = c.args.self in
     let q : ℕ = l.digits in
-    let u : ℕ = c.unit_of_unit.result in
-    let k : ℕ = l.place + c.digits_cut_gone.result - 104 in
-    let w : is_whole (sticky (q % u) u l.left) ≡ false = ap is_whole (sym c.locate_position.ensures) ∙ sym c.if_is_exact.ensures in
-    let e : c.raise_c.result ≡ rounded_at c.args.mode c.args.sign (q / u) (sticky (q % u) u l.left) =
-    c.raise_c.ensures ∙ ap (rounded_at c.args.mode c.args.sign (q / u)) c.locate_position.ensures
+    let u : ℕ = c.unit-of-unit.result in
+    let k : ℕ = l.place + c.digits-cut-gone.result - 104 in
+    let w : is_whole (sticky (q % u) u l.left) ≡ false = ap is_whole (sym c.locate-position.ensures) ∙ sym c.if-is-exact.ensures in
+    let e : c.raise-c.result ≡ rounded_at c.args.mode c.args.sign (q / u) (sticky (q % u) u l.left) =
+    c.raise-c.ensures ∙ ap (rounded_at c.args.mode c.args.sign (q / u)) c.locate-position.ensures
     in
     record {
       value = λ n d t.
-          ap (λ x. finite x k c.flags_of.result) e ∙ ap (finite (rounded_at c.args.mode c.args.sign (q / u) (sticky (q % u) u l.left)) k) c.flags_of.ensures
+          ap (λ x. finite x k c.flags-of.result) e ∙ ap (finite (rounded_at c.args.mode c.args.sign (q / u) (sticky (q % u) u l.left)) k) c.flags-of.ensures
           ∙ way_inexact c.args.mode c.args.sign c.args.ideal
-          (cut_by q l.left l.place n d c.digits_cut_gone.result u l.least l.most c.if_digits_eq0.false c.digits_cut_gone.ensures.cut c.unit_of_unit.ensures.value t)
+          (cut_by q l.left l.place n d c.digits-cut-gone.result u l.least l.most c.if-digits-eq0.false c.digits-cut-gone.ensures.cut c.unit-of-unit.ensures.value t)
           (omega arith) w;
       small =
-          (subst (λ x. x < 10000000) (sym e) (raised_small c.args.mode c.args.sign l.left q u 10000000 l.most c.unit_of_unit.ensures.least), omega arith);
+          (subst (λ x. x < 10000000) (sym e) (raised_small c.args.mode c.args.sign l.left q u 10000000 l.most c.unit-of-unit.ensures.least), omega arith);
       definition = stands;
     }

@@ -17,14 +17,14 @@ eight l z = l.least (some l.digits z)
 end_is : (s m : ℕ) → m ≡ min s 101 → 101 - s + 104 ≡ 205 - m
 end_is s m e = omega arith
 
-pub returns_then_digits_eq0 : goal.returns_then_digits_eq0
-returns_then_digits_eq0 c = record { value = λ n d t. split_zero c.args.scale c.if_digits_eq0.true t; small = omega arith }
+pub returns-then-digits-eq0 : goal.returns-then-digits-eq0
+returns-then-digits-eq0 c = record { value = λ n d t. split_zero c.args.scale c.if-digits-eq0.true t; small = omega arith }
 
-pub returns_then_place_end : goal.returns_then_place_end
-returns_then_place_end c =
+pub returns-then-place-end : goal.returns-then-place-end
+returns-then-place-end c =
     record {
       value = λ n d t.
-          split_large c.args.scale (eight c.args.self c.if_digits_eq0.false) (omega (arith, end_is c.args.scale c.min_end.result c.min_end.ensures, c.if_place_end.true)) t;
+          split_large c.args.scale (eight c.args.self c.if-digits-eq0.false) (omega (arith, end_is c.args.scale c.min-end.result c.min-end.ensures, c.if-place-end.true)) t;
       small = tt;
     }
 
@@ -32,7 +32,7 @@ pub returns : goal.returns
 returns c =
     record {
       value = λ n d t.
-          split_cut c.args.scale (205 - c.min_end.result - c.args.self.place) c.unit_of_unit.result c.locate.result (omega (arith, c.args.self.most))
-          (omega (arith, end_is c.args.scale c.min_end.result c.min_end.ensures, c.if_place_end.false)) (omega (arith, c.if_place_end.false)) c.unit_of_unit.ensures.value c.locate.ensures t;
-      small = floor_small c.args.self.digits c.unit_of_unit.result 10000000 (omega (arith, c.args.self.most)) c.unit_of_unit.ensures.least;
+          split_cut c.args.scale (205 - c.min-end.result - c.args.self.place) c.unit-of-unit.result c.locate.result (omega (arith, c.args.self.most))
+          (omega (arith, end_is c.args.scale c.min-end.result c.min-end.ensures, c.if-place-end.false)) (omega (arith, c.if-place-end.false)) c.unit-of-unit.ensures.value c.locate.ensures t;
+      small = floor_small c.args.self.digits c.unit-of-unit.result 10000000 (omega (arith, c.args.self.most)) c.unit-of-unit.ensures.least;
     }

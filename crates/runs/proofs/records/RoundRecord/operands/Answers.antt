@@ -2,8 +2,8 @@
 -- Assumes nothing.
 use Rattle.std.proofs.Common.{◌≡◌, ◌≤◌, Bool, true, false, ◌&&◌, leb, ℤ, pos, negsuc, Ok, sym, ap, ◌∙◌, arith, w32, SFits, to_z, of_z, rules}
 use lib.Signed.{le_z}
-use Rattle.std.proofs.lemmas.Int.{ints, to_z_of_z}
-use Rattle.std.proofs.lemmas.Bool.{cond_true, leb_true}
+use Rattle.std.proofs.lemmas.Int.{ints, to_z-of_z}
+use Rattle.std.proofs.lemmas.Bool.{cond-true, leb-true}
 use Rattle.decimal.specs.Numbers.{datum}
 use Rattle.runs.specs.declared.records.Round.{Round}
 use Rattle.runs.specs.Records.{round_in_range, round_tenths, whole_datum}
@@ -15,7 +15,7 @@ and_last false b e = let z : true ≡ false = sym e in cc
 
 slope_most : (r : Round) → round_in_range r ≡ true → r.slope ≤ 155
 slope_most r e =
-    leb_true r.slope 155
+    leb-true r.slope 155
     (and_last (leb 55 r.slope) _
     (and_last (le_z (negsuc 0) r.adjustment && le_z r.adjustment (pos 3)) _
     (and_last (leb 300 r.rating && leb r.rating 999) _ (and_last (leb 18 r.gross && leb r.gross 399) _ e))))
@@ -23,14 +23,14 @@ slope_most r e =
 pub returns : goal.returns
 returns c =
     let r = c.args.self.now in
-    let z : ℤ = c.tenths_dividend.result in
-    let z_fits : to_z w32 (of_z w32 z) ≡ z = omega (arith, ints, c.tenths_dividend.ensures.small) in
+    let z : ℤ = c.tenths-dividend.result in
+    let z-fits : to_z w32 (of_z w32 z) ≡ z = omega (arith, ints, c.tenths-dividend.ensures.small) in
     let fits : SFits w32 r.adjustment = search rules in
-    let a_is : to_z w32 (of_z w32 r.adjustment) ≡ r.adjustment = to_z_of_z w32 r.adjustment fits in
-    let y : datum c.whole_number.result ≡ whole_datum (round_tenths r.gross r.rating r.adjustment) (negsuc 0) =
-    c.whole_number.ensures ∙ ap (λ v. whole_datum v (negsuc 0)) (z_fits ∙ c.tenths_dividend.ensures.value ∙ ap (round_tenths r.gross r.rating) a_is) in
-    let within : round_in_range r ≡ true = sym c.is_in_range.ensures ∙ c.if_not_is_in_range.false in
+    let a_is : to_z w32 (of_z w32 r.adjustment) ≡ r.adjustment = to_z-of_z w32 r.adjustment fits in
+    let y : datum c.whole-number.result ≡ whole_datum (round_tenths r.gross r.rating r.adjustment) (negsuc 0) =
+    c.whole-number.ensures ∙ ap (λ v. whole_datum v (negsuc 0)) (z-fits ∙ c.tenths-dividend.ensures.value ∙ ap (round_tenths r.gross r.rating) a_is) in
+    let within : round_in_range r ≡ true = sym c.is-in-range.ensures ∙ c.if-not-is-in-range.false in
     let slope : r.slope ≤ 155 = slope_most r within in
-    let s_is : to_z w32 r.slope ≡ pos r.slope = omega (arith, ints) in
-    let x : datum c.whole_number_2.result ≡ whole_datum (pos r.slope) (pos 0) = c.whole_number_2.ensures ∙ ap (λ v. whole_datum v (pos 0)) s_is in
-    (λ i. Ok (y i, x i)) ∙ sym (cond_true (round_in_range r) _ _ within)
+    let s-is : to_z w32 r.slope ≡ pos r.slope = omega (arith, ints) in
+    let x : datum c.whole-number-2.result ≡ whole_datum (pos r.slope) (pos 0) = c.whole-number-2.ensures ∙ ap (λ v. whole_datum v (pos 0)) s-is in
+    (λ i. Ok (y i, x i)) ∙ sym (cond-true (round_in_range r) _ _ within)

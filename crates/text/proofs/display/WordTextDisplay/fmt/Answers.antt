@@ -3,5 +3,5 @@
 use Rattle.text.proofs.Digits.{word_utf8}
 use Rattle.text.proofs.display.WordTextDisplay.fmt.Goals as goal
 
-pub unreachable_requires : goal.unreachable_requires
-unreachable_requires g c = c.in_Err.ensures.cases.0 (word_utf8 c.word_digits.result c.args.self.now.0 c.word_digits.ensures.value)
+pub unreachable-requires : goal.unreachable-requires
+unreachable-requires g c = c.in-Err.ensures.cases.0 (word_utf8 c.word-digits.result c.args.self.now.0 c.word-digits.ensures.value)

@@ -3,11 +3,11 @@ use Rattle.std.proofs.Common.{◌≡◌, length, arith}
 use Rattle.text.proofs.Goes.{grown, full}
 use Rattle.text.proofs.line.Line.with.Goals as goal
 
-pub returns_then_self_eq33 : goal.returns_then_self_eq33
-returns_then_self_eq33 c =
+pub returns-then-self-eq33 : goal.returns-then-self-eq33
+returns-then-self-eq33 c =
     let n = c.args.self.now.number in
     let l : length c.args.self.now.bytes ≡ 33 = omega arith in
-    let e = full c.args.self.now.bytes c.args.self.now.len c.args.byte c.if_self_eq33.true l in
+    let e = full c.args.self.now.bytes c.args.self.now.len c.args.byte c.if-self-eq33.true l in
     λ i. record { number = n; text = e i }
 
 pub returns : goal.returns
