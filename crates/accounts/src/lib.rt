@@ -1,4 +1,5 @@
 // Calls of a season, what each answers, and the account that they come to, from their arguments alone.
+#![tactic(auto)]
 mod calls;
 mod worked;
 

@@ -1,4 +1,6 @@
 // The season card and the mode in force.
+#![tactic(auto)]
+
 mod card;
 mod open;
 mod posting;

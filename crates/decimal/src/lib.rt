@@ -1,4 +1,6 @@
 // Decimal32 numbers and words: the lowest layer, with the refusals, modes and flags that it stands on.
+#![tactic(auto)]
+
 mod declet;
 mod finite;
 mod nan;

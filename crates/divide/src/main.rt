@@ -1,4 +1,6 @@
 // Divides decimal32 words, a pair a line, over a chosen source of reciprocals.
+#![tactic(auto)]
+
 mod answer;
 mod request;
 

@@ -1,5 +1,5 @@
 -- A draft that is begun is one of the exact quotient. Assumes nothing.
-use Rattle.std.proofs.Common.{◌≡◌, ℕ, Bool, true, false, cond, eqb, ltb, ℤ, Ok, Err, sym, refl, ap, ◌∙◌, arith}
+use Rattle.std.proofs.Common.{◌≡◌, ℕ, Bool, true, false, eqb, ltb, ℤ, Ok, Err, sym, refl, ap, ◌∙◌, arith}
 use Rattle.refusals.specs.declared.Fault.{Fault}
 use Rattle.refusals.specs.declared.Refusal.TheVariants.{ClaimUnderNine, ZeroDivisor}
 use Rattle.refusals.specs.Refusals.{at_no_place}
@@ -7,8 +7,8 @@ use Rattle.rounding.specs.declared.sign.Sign.{Sign}
 use Rattle.decimal.specs.Numbers.{Datum, finite, infinite, quiet, signalling}
 use Rattle.quotient.specs.Quotients.{decimal32, quotient_top, quotient_bottom, divided}
 use Rattle.divider.specs.Drafts.{Begun, StandsFor, StandsForQuotient, begin_by, begin_numbers, draft_from, counted}
-use Rattle.divider.specs.Divisions.{over_zero, rounded_quotient, under_sign}
-use Rattle.divider.specs.Exact.{Exact, DraftOf, finite_exact, exact_quotient, begun_quotient}
+use Rattle.divider.specs.Divisions.{under_sign}
+use Rattle.divider.specs.Exact.{DraftOf, finite_exact, exact_quotient, begun_quotient}
 
 -- two finite numbers, the divisor not zero
 module _ (r : ℕ → ℕ) (b : Begun) (s t : Sign) (cy cx : ℕ) (ey ex : ℤ) where

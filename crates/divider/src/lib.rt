@@ -1,4 +1,6 @@
 // Division of decimal32 numbers over any source of reciprocals: drafts, one rounding, and the quotient of two words.
+#![tactic(auto)]
+
 mod begin;
 mod divide;
 mod draft;

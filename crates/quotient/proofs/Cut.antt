@@ -1,5 +1,5 @@
 -- A fraction known by its floor and whether anything is left, cut at a power of ten. Assumes nothing.
-use Rattle.std.proofs.Common.{◌≡◌, ℕ, zero, suc, ◌+◌, ◌-◌, ◌*◌, ◌/◌, ◌%◌, ◌<◌, ◌≤◌, ltb, sym, ap, ◌∙◌, inl, inr, mul-le-mul_right, lt_of_mul-lt-mul_right, le_of_mul-le-mul_right, arith}
+use Rattle.std.proofs.Common.{◌≡◌, ℕ, zero, suc, ◌+◌, ◌*◌, ◌/◌, ◌%◌, ◌<◌, ◌≤◌, ltb, sym, ap, ◌∙◌, inl, inr, mul-le-mul_right, lt_of_mul-lt-mul_right, le_of_mul-le-mul_right, arith}
 use native.Mathlib.Nat.{mul-div-mul_right, div-div-eq-div-mul, div-add-mod}
 use lib.Arith.{digits_div}
 use Rattle.std.proofs.lemmas.Bool.{cases_lt}

@@ -2,7 +2,6 @@
 use Rattle.std.proofs.Common.{◌≡◌, ℕ, suc, ◌+◌, ◌-◌, ◌*◌, ◌/◌, ◌%◌, ◌^◌, ◌<◌, ◌≤◌, true, false, cond, ◌&&◌, ◌||◌, eqb, ltb, leb, sym, ap, ◌∙◌, subst, inl, inr, mul-pos, pow-suc, le-div_iff_mul-le, le_of_mul-le-mul_right, mul-div_cancel, arith, pow-add}
 use native.Mathlib.Nat.{mul-mod_left, div-add-mod}
 use Rattle.std.proofs.lemmas.Bool.{cases_lt, cond-true, cond-false, lt-ltb, le-ltb, le-leb, lt-leb, eq-eqb, ne_eqb, and_from, and_left, and_right, or_left, or_right, or_from}
-use Rattle.quotient.specs.Search.{least}
 use Rattle.quotient.specs.Quotients.{Range, fits, distance, preferred}
 use Rattle.quotient.proofs.Search.{least_is}
 use Rattle.quotient.proofs.Exponent.{tens_pos}

@@ -1,5 +1,5 @@
 -- A quotient by its leading digits: what they stand for, and what rounding them needs. Assumes nothing.
-use Rattle.std.specs.Prelude.{◌≡◌, ℕ, ◌+◌, ◌-◌, ◌*◌, ◌%◌, ◌^◌, ◌<◌, ◌≤◌, Bool, cond, not, ◌&&◌, ◌==◌, ◌≢◌, nat_lt}
+use Rattle.std.specs.Prelude.{◌≡◌, ℕ, ◌+◌, ◌*◌, ◌%◌, ◌^◌, ◌<◌, ◌≤◌, Bool, cond, not, ◌&&◌, ◌==◌, ◌≢◌, nat_lt}
 use Rattle.quotient.specs.declared.types.Magnitude.{Magnitude}
 use Rattle.quotient.specs.declared.types.Magnitude.TheVariants.{Finite, Infinite}
 use Rattle.rounding.specs.declared.mode.Position.{Position}

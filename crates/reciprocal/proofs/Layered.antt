@@ -1,5 +1,5 @@
 -- Any number of layers approximates. Assumes nothing.
-use Rattle.std.proofs.Common.{ℕ, zero, suc, ◌<◌, ◌≤◌, arith}
+use Rattle.std.proofs.Common.{ℕ, zero, suc, ◌≤◌, arith}
 use Rattle.reciprocal.specs.Layers.{layers_claim, layers, LayersApproximate}
 use Rattle.reciprocal.specs.Steps.{approximates}
 

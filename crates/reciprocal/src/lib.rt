@@ -1,4 +1,6 @@
 // Reciprocals of divisors of seven digits: two tables, short division, and layers of Newton's step over any of them.
+#![tactic(auto)]
+
 mod newton;
 mod powers;
 mod short;

@@ -1,4 +1,6 @@
 // Every way in which a call can be refused, and the fault that tells of it.
+#![tactic(auto)]
+
 ghost use Rattle.std.specs.Prelude.{◌≡◌};
 ghost use Rattle.refusals.specs.Refusals.{refusal_number, refusal_layer, layer_number};
 

@@ -1,4 +1,5 @@
 // Carries out an order of calls on a new season card, answers each of them, and tells the card at the end.
+#![tactic(auto)]
 mod answer;
 mod order;
 mod parts;

@@ -1,5 +1,5 @@
 -- One whole number alone is what a mode means. Assumes nothing.
-use Rattle.std.proofs.Common.{◌≡◌, ℕ, suc, ◌+◌, ◌-◌, ◌*◌, ◌%◌, ◌<◌, ◌≤◌, Bool, true, false, ◌⊎◌, ℤ, pos, negsuc, ◌+ℤ◌, ◌-ℤ◌, ◌*ℤ◌, nat_abs, ◌≤ℤ◌, ◌<ℤ◌, MatchBool, sym, ap, ◌∙◌, inl, inr, mul-le-mul_right, arith}
+use Rattle.std.proofs.Common.{◌≡◌, ℕ, suc, ◌+◌, ◌*◌, ◌%◌, ◌<◌, ◌≤◌, Bool, true, false, ◌⊎◌, ℤ, pos, negsuc, ◌+ℤ◌, ◌-ℤ◌, ◌*ℤ◌, nat_abs, ◌≤ℤ◌, ◌<ℤ◌, MatchBool, sym, ap, ◌∙◌, inl, inr, mul-le-mul_right, arith}
 use lib.Signed.{lt_z}
 use borrow.Author.Differences.{up, down, product_is, same_in}
 use Rattle.std.proofs.lemmas.Int.{ints}

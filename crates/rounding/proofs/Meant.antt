@@ -1,5 +1,5 @@
 -- What the modes make of a magnitude is what they mean of the signed value. Assumes nothing.
-use Rattle.std.proofs.Common.{◌≡◌, ℕ, zero, suc, ◌+◌, ◌*◌, ◌/◌, ◌%◌, ◌<◌, ◌≤◌, cond, eqb, ltb, ◌⊎◌, ℤ, pos, negsuc, ◌-ℤ◌, ◌*ℤ◌, neg_ℤ, nat_abs, MatchBool, sym, ap, ◌∙◌, subst, inl, inr, mod-lt, lt_of_mul-lt-mul_right, zero-mul, arith}
+use Rattle.std.proofs.Common.{◌≡◌, ℕ, zero, suc, ◌+◌, ◌*◌, ◌/◌, ◌%◌, ◌<◌, ◌≤◌, cond, eqb, ltb, ◌⊎◌, pos, negsuc, ◌-ℤ◌, ◌*ℤ◌, neg_ℤ, nat_abs, MatchBool, sym, ap, ◌∙◌, subst, inl, inr, mod-lt, lt_of_mul-lt-mul_right, zero-mul, arith}
 use native.Mathlib.Nat.{div-add-mod}
 use borrow.Author.Differences.{product_is}
 use Rattle.std.proofs.lemmas.Int.{ints}

@@ -1,4 +1,6 @@
 // Signs, the seven rounding modes and what each means, and the exception flags.
+#![tactic(auto)]
+
 mod flags;
 mod mode;
 mod sign;

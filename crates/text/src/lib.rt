@@ -1,4 +1,6 @@
 // Words and numbers as text, and text line by line.
+#![tactic(auto)]
+
 mod display;
 mod line;
 mod lines;

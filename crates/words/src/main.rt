@@ -1,4 +1,6 @@
 // Reads decimal32 words, one a line, and tells the number and the canonical word of each.
+#![tactic(auto)]
+
 mod answer;
 
 use answer::Answer;

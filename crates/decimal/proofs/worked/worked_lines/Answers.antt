@@ -6,7 +6,7 @@ use Rattle.decimal.proofs.worked.worked_lines.Goals as goal
 
 pub returns : goal.returns
 returns c =
-    let one = c.write-word.ensures.word ∙ computed.one in
-    let greatest = c.write-word-2.ensures.word ∙ computed.greatest in
-    let eighth = c.write-word-3.ensures.word ∙ computed.eighth in
+    let one = c.write_word.ensures.word ∙ computed.one in
+    let greatest = c.write_word-2.ensures.word ∙ computed.greatest in
+    let eighth = c.write_word-3.ensures.word ∙ computed.eighth in
     record { words = λ i. one i ∷ (greatest i ∷ (eighth i ∷ [])); definitions = computed }

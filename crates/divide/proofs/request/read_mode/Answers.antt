@@ -9,24 +9,24 @@ returns-then-i-eq0 c = sym (blank_first c.args.text.now c.loop-i.i c.loop-i.numb
 pub returns-else-i-eq0 : goal.returns-else-i-eq0
 returns-else-i-eq0 c = sym (blank_after c.args.text.now c.loop-i.i c.loop-i.number c.loop-i-test.true c.if-byte-eq32.true c.if-i-eq0.false) ∙ c.loop-i.invariant.0
 
-pub returns-in-err-digit : goal.returns-in-err-digit
-returns-in-err-digit c =
-    c.from-residual.ensures
-    ∙ sym (no_digit c.args.text.now c.loop-i.i c.loop-i.number c.loop-i-test.true c.if-byte-eq32.false (sym c.in-err-digit.ensures.value))
+pub returns-in_err-digit : goal.returns-in_err-digit
+returns-in_err-digit c =
+    c.from_residual.ensures
+    ∙ sym (no_digit c.args.text.now c.loop-i.i c.loop-i.number c.loop-i-test.true c.if-byte-eq32.false (sym c.in_err-digit.ensures.value))
     ∙ c.loop-i.invariant.0
 
-pub overflow-mul-number : goal.overflow-mul-number
-overflow-mul-number c = omega (arith, nine_digits c.loop-i.number c.loop-i.i c.loop-i.invariant.1 c.in-ok-digit.ensures.small.1)
+pub overflow_mul-number : goal.overflow_mul-number
+overflow_mul-number c = omega (arith, nine_digits c.loop-i.number c.loop-i.i c.loop-i.invariant.1 c.in_ok-digit.ensures.small.1)
 
-pub overflow-add-number : goal.overflow-add-number
-overflow-add-number c =
-    omega (arith, nine_digits c.loop-i.number c.loop-i.i c.loop-i.invariant.1 c.in-ok-digit.ensures.small.1, c.in-ok-digit.ensures.small.0)
+pub overflow_add-number : goal.overflow_add-number
+overflow_add-number c =
+    omega (arith, nine_digits c.loop-i.number c.loop-i.i c.loop-i.invariant.1 c.in_ok-digit.ensures.small.1, c.in_ok-digit.ensures.small.0)
 
 pub loop-i-preserved : goal.loop-i-preserved
 loop-i-preserved c = (
-  sym (one_digit c.args.text.now c.loop-i.i c.loop-i.number c.in-ok-digit.digit c.loop-i-test.true c.if-byte-eq32.false (sym c.in-ok-digit.ensures.value))
+  sym (one_digit c.args.text.now c.loop-i.i c.loop-i.number c.in_ok-digit.digit c.loop-i-test.true c.if-byte-eq32.false (sym c.in_ok-digit.ensures.value))
       ∙ c.loop-i.invariant.0,
-  more_digits c.loop-i.number c.in-ok-digit.digit c.loop-i.i c.loop-i.invariant.1 c.in-ok-digit.ensures.small.0,
+  more_digits c.loop-i.number c.in_ok-digit.digit c.loop-i.i c.loop-i.invariant.1 c.in_ok-digit.ensures.small.0,
 )
 
 pub returns : goal.returns

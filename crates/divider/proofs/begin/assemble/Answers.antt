@@ -12,8 +12,8 @@ bias-requires c = draft_fits _ _ _ c.requires.divisor.0 c.requires.dividend.1 c.
 carried : (P : ℕ → Type 0) (w v : ℕ) → v ≡ w → P w → P v
 carried P w v e h = subst P (sym e) h
 
-pub invariant-of-result : goal.invariant-of-result
-invariant-of-result c =
+pub invariant_of-result : goal.invariant_of-result
+invariant_of-result c =
     let Y : ℕ = c.args.y.digits in
     let D : ℕ = c.args.x.digits in
     let b : Brackets c.widen.result D c.bias.result =
@@ -23,4 +23,12 @@ invariant-of-result c =
     carried (λ w. 0 < w → 10000000 * D ≤ w) _ _ c.widen.ensures (wide_least Y D c.requires.dividend.0 c.requires.divisor.0 c.requires.divisor.1)
     in
     let most : c.widen.result ≤ 99999990 * D = carried (λ w. w ≤ 99999990 * D) _ _ c.widen.ensures (wide_most Y D c.requires.dividend.1 c.requires.divisor.0 c.requires.divisor.1) in
-    (b.some, (b.under, (b.over, ((c.requires.divisor.0, c.requires.divisor.1), (least, (most, omega (arith, c.saturating-sub.ensures, c.zeros-widening.ensures.few)))))))
+    record {
+      some = b.some;
+      under = b.under;
+      over = b.over;
+      seven = (c.requires.divisor.0, c.requires.divisor.1);
+      least = least;
+      most = most;
+      far = omega (arith, c.saturating_sub.ensures, c.zeros_widening.ensures.few);
+    }

@@ -63,7 +63,7 @@ returns g c =
     in
     record {
       held = c.assemble.ensures
-          ∙ same_draft c.multiply-signs.ensures y.scaled.digits y.scaled.zeros y.exponent x.scaled.digits x.scaled.zeros x.exponent
+          ∙ same_draft c.multiply_signs.ensures y.scaled.digits y.scaled.zeros y.exponent x.scaled.digits x.scaled.zeros x.exponent
           (reciprocal_is g (goal.at.returns g c).After-unwrap-reciprocal ∙ ap (g.S.Source.reciprocal c.args.source.now) x.scaled.digits);
       stands = subst (λ e. StandsFor (held c.assemble.result) (quotient_top decimal32 cy (counted c.args.y.exponent)) (quotient_bottom cx e)) x.exponent
           (subst (λ e. StandsFor (held c.assemble.result) (quotient_top decimal32 cy e) (quotient_bottom cx c.normalize-divisor.result.exponent)) y.exponent

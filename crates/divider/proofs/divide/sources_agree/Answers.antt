@@ -1,6 +1,6 @@
 -- An answer is the definition's, which does not mention the source.
 -- Assumes nothing.
-use Rattle.std.proofs.Common.{◌≡◌, ℕ, true, false, ltb, is_ok, Ok, Result, sym, ap, ◌∙◌, inl, inr}
+use Rattle.std.proofs.Common.{◌≡◌, ℕ, false, ltb, is_ok, Ok, Result, sym, ap, ◌∙◌, inl, inr}
 use Rattle.std.specs.Result.{result_unwrap_or}
 use Rattle.std.proofs.lemmas.Bool.{cases_Bool, cond-true, cond-false, eq-eqb, true≢false}
 use Rattle.refusals.specs.declared.Fault.{Fault}
@@ -22,8 +22,8 @@ pub returns-then-one-other : goal.returns-then-one-other
 returns-then-one-other g c =
     let G : ℕ = g.S.Source.claim c.args.first.now in
     let H : ℕ = g.T.Source.claim c.args.second.now in
-    let p = answered G c.args.mode c.args.dividend c.args.divisor c.divide-words.result c.in-ok-one.one c.in-ok-one.was c.divide-words.ensures in
-    let q = answered H c.args.mode c.args.dividend c.args.divisor c.divide-words-2.result c.in-ok-other.other c.in-ok-other.was c.divide-words-2.ensures in
+    let p = answered G c.args.mode c.args.dividend c.args.divisor c.divide_words.result c.in_ok-one.one c.in_ok-one.was c.divide_words.ensures in
+    let q = answered H c.args.mode c.args.dividend c.args.divisor c.divide_words-2.result c.in_ok-other.other c.in_ok-other.was c.divide_words-2.ensures in
     let n : c.number.result ≡ c.number-then-one-other.result =
     c.number.ensures ∙ ap (λ a. flags_number a.flags) (p.1 ∙ sym q.1) ∙ sym c.number-then-one-other.ensures
     in

@@ -12,7 +12,7 @@ seven p q r s t u v = λ i. p i ∷ (q i ∷ (r i ∷ (s i ∷ (t i ∷ (u i ∷
 pub returns : goal.returns
 returns c =
     record {
-      words = seven c.quotient-of.ensures c.quotient-of-2.ensures c.quotient-of-3.ensures c.quotient-of-4.ensures c.quotient-of-5.ensures c.quotient-of-6.ensures c.quotient-of-7.ensures
+      words = seven c.quotient_of.ensures c.quotient_of-2.ensures c.quotient_of-3.ensures c.quotient_of-4.ensures c.quotient_of-5.ensures c.quotient_of-6.ensures c.quotient_of-7.ensures
           ∙ words_computed;
       definitions = computed;
     }

@@ -13,6 +13,6 @@ returns c =
     record {
       value = λ n d t.
           ap (λ x. (c.args.self.sign, x))
-          (c.split-at.ensures.value n d (moved n d (sym c.leading.ensures.digits) (sym c.leading.ensures.left) (sym c.leading.ensures.place) t));
-      small = c.split-at.ensures.small;
+          (c.split_at.ensures.value n d (moved n d (sym c.leading.ensures.digits) (sym c.leading.ensures.left) (sym c.leading.ensures.place) t));
+      small = c.split_at.ensures.small;
     }

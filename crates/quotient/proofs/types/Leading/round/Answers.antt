@@ -27,9 +27,9 @@ pub returns-then-digits-eq0 : goal.returns-then-digits-eq0
 returns-then-digits-eq0 c =
     record {
       value = λ n d t.
-          ap (λ x. finite 0 x c.none.result) c.brought-in.ensures ∙ ap (finite 0 (min 191 c.args.ideal)) c.none.ensures
+          ap (λ x. finite 0 x c.none.result) c.brought_in.ensures ∙ ap (finite 0 (min 191 c.args.ideal)) c.none.ensures
           ∙ way_zero decimal32 c.args.mode c.args.sign c.args.ideal c.if-digits-eq0.true t;
-      small = (omega arith, omega (arith, c.brought-in.ensures));
+      small = (omega arith, omega (arith, c.brought_in.ensures));
       definition = stands;
     }
 
@@ -40,47 +40,47 @@ returns-then-exponent-gt191 c =
       value = λ n d t.
           c.overflow.ensures
           ∙ way_over c.args.mode c.args.sign c.args.ideal
-          (cut_at l.digits l.left l.place n d c.digits-cut-gone.result l.least l.most c.if-digits-eq0.false c.digits-cut-gone.ensures.cut t) (omega arith);
+          (cut_at l.digits l.left l.place n d c.digits_cut-gone.result l.least l.most c.if-digits-eq0.false c.digits_cut-gone.ensures.cut t) (omega arith);
       small = subst (λ r. InRange r.magnitude) (sym c.overflow.ensures) (overflow_in c.args.mode c.args.sign);
       definition = stands;
     }
 
-pub returns-then-is-exact : goal.returns-then-is-exact
-returns-then-is-exact c =
+pub returns-then-is_exact : goal.returns-then-is_exact
+returns-then-is_exact c =
     let l = c.args.self in
-    let u : ℕ = c.unit-of-unit.result in
-    let w : is_whole (sticky (l.digits % u) u l.left) ≡ true = ap is_whole (sym c.locate-position.ensures) ∙ sym c.if-is-exact.ensures in
-    let f : l.digits / u < 10000000 = floor_small l.digits u 10000000 (omega (arith, l.most)) c.unit-of-unit.ensures.least in
+    let u : ℕ = c.unit_of-unit.result in
+    let w : is_whole (sticky (l.digits % u) u l.left) ≡ true = ap is_whole (sym c.locate-position.ensures) ∙ sym c.if-is_exact.ensures in
+    let f : l.digits / u < 10000000 = floor_small l.digits u 10000000 (omega (arith, l.most)) c.unit_of-unit.ensures.least in
     record {
       value = λ n d t.
-          ap (finite c.strip-c.result.0 c.strip-c.result.1) c.none-then-is-exact.ensures
+          ap (finite c.strip-c.result.0 c.strip-c.result.1) c.none-then-is_exact.ensures
           ∙ way_exact c.args.mode c.args.sign c.args.ideal c.strip-c.result.0 c.strip-c.result.1
-          (cut_by l.digits l.left l.place n d c.digits-cut-gone.result u l.least l.most c.if-digits-eq0.false c.digits-cut-gone.ensures.cut c.unit-of-unit.ensures.value t)
+          (cut_by l.digits l.left l.place n d c.digits_cut-gone.result u l.least l.most c.if-digits-eq0.false c.digits_cut-gone.ensures.cut c.unit_of-unit.ensures.value t)
           (omega arith) w c.strip-c.ensures;
       small = (omega (arith, f, c.strip-c.ensures.less), c.strip-c.ensures.within);
       definition = stands;
     }
 
 pub raise-c-requires : goal.raise-c-requires
-raise-c-requires c = floor_small c.args.self.digits c.unit-of-unit.result 10000000 (omega (arith, c.args.self.most)) c.unit-of-unit.ensures.least
+raise-c-requires c = floor_small c.args.self.digits c.unit_of-unit.result 10000000 (omega (arith, c.args.self.most)) c.unit_of-unit.ensures.least
 
 pub returns : goal.returns
 returns c =
     let l = c.args.self in
     let q : ℕ = l.digits in
-    let u : ℕ = c.unit-of-unit.result in
-    let k : ℕ = l.place + c.digits-cut-gone.result - 104 in
-    let w : is_whole (sticky (q % u) u l.left) ≡ false = ap is_whole (sym c.locate-position.ensures) ∙ sym c.if-is-exact.ensures in
+    let u : ℕ = c.unit_of-unit.result in
+    let k : ℕ = l.place + c.digits_cut-gone.result - 104 in
+    let w : is_whole (sticky (q % u) u l.left) ≡ false = ap is_whole (sym c.locate-position.ensures) ∙ sym c.if-is_exact.ensures in
     let e : c.raise-c.result ≡ rounded_at c.args.mode c.args.sign (q / u) (sticky (q % u) u l.left) =
     c.raise-c.ensures ∙ ap (rounded_at c.args.mode c.args.sign (q / u)) c.locate-position.ensures
     in
     record {
       value = λ n d t.
-          ap (λ x. finite x k c.flags-of.result) e ∙ ap (finite (rounded_at c.args.mode c.args.sign (q / u) (sticky (q % u) u l.left)) k) c.flags-of.ensures
+          ap (λ x. finite x k c.flags_of.result) e ∙ ap (finite (rounded_at c.args.mode c.args.sign (q / u) (sticky (q % u) u l.left)) k) c.flags_of.ensures
           ∙ way_inexact c.args.mode c.args.sign c.args.ideal
-          (cut_by q l.left l.place n d c.digits-cut-gone.result u l.least l.most c.if-digits-eq0.false c.digits-cut-gone.ensures.cut c.unit-of-unit.ensures.value t)
+          (cut_by q l.left l.place n d c.digits_cut-gone.result u l.least l.most c.if-digits-eq0.false c.digits_cut-gone.ensures.cut c.unit_of-unit.ensures.value t)
           (omega arith) w;
       small =
-          (subst (λ x. x < 10000000) (sym e) (raised_small c.args.mode c.args.sign l.left q u 10000000 l.most c.unit-of-unit.ensures.least), omega arith);
+          (subst (λ x. x < 10000000) (sym e) (raised_small c.args.mode c.args.sign l.left q u 10000000 l.most c.unit_of-unit.ensures.least), omega arith);
       definition = stands;
     }

@@ -32,7 +32,7 @@ pub returns : goal.returns
 returns c =
     record {
       value = λ n d t.
-          split_cut c.args.scale (205 - c.min-end.result - c.args.self.place) c.unit-of-unit.result c.locate.result (omega (arith, c.args.self.most))
-          (omega (arith, end_is c.args.scale c.min-end.result c.min-end.ensures, c.if-place-end.false)) (omega (arith, c.if-place-end.false)) c.unit-of-unit.ensures.value c.locate.ensures t;
-      small = floor_small c.args.self.digits c.unit-of-unit.result 10000000 (omega (arith, c.args.self.most)) c.unit-of-unit.ensures.least;
+          split_cut c.args.scale (205 - c.min-end.result - c.args.self.place) c.unit_of-unit.result c.locate.result (omega (arith, c.args.self.most))
+          (omega (arith, end_is c.args.scale c.min-end.result c.min-end.ensures, c.if-place-end.false)) (omega (arith, c.if-place-end.false)) c.unit_of-unit.ensures.value c.locate.ensures t;
+      small = floor_small c.args.self.digits c.unit_of-unit.result 10000000 (omega (arith, c.args.self.most)) c.unit_of-unit.ensures.least;
     }

@@ -9,12 +9,12 @@ pub refine-requires : goal.refine-requires
 refine-requires g c =
     let s = c.args.self.now.lower in
     let d : ℕ = c.args.divisor in
-    let t = told (g.S.Source.reciprocal s) d c.in-ok-answer.answer (sym c.ask.ensures ∙ c.in-ok-answer.was) in
+    let t = told (g.S.Source.reciprocal s) d c.in_ok-answer.answer (sym c.ask.ensures ∙ c.in_ok-answer.was) in
     let near = cuts _ d _ (g.met.S.Source.approximates s d t.least t.most) in
     record {
       some = omega (arith, (g.met.S.Source.claims s).0);
       six = omega arith;
       least = t.least;
       most = t.most;
-      near = simp (c.min.ensures, c.power-of-ten.ensures.value, c.saturating-sub.ensures, c.claimed-claim.ensures, t.is) near;
+      near = simp (c.min.ensures, c.power_of_ten.ensures.value, c.saturating_sub.ensures, c.claimed-claim.ensures, t.is) near;
     }

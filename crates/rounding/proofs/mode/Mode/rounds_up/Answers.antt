@@ -5,5 +5,5 @@ use Rattle.rounding.proofs.mode.Mode.rounds_up.Goals as goal
 
 pub returns : goal.returns
 returns c =
-    let e = c.goes-up-to-next.ensures in
+    let e = c.goes_up_to_next.ensures in
     record { value = e; only = rounds_so c.args.self c.args.sign c.args.odd c.args.position _ e }
