@@ -13,8 +13,9 @@ use Rattle.divider.specs.Divisions.{number_quotient, outcome, under_sign, word_o
 use Rattle.divider.specs.Exact.{DraftOf, begun_quotient, exact_quotient}
 use Rattle.divider.proofs.Exact.{draft_of, begun_exact, refused_alike}
 use Rattle.card.specs.declared.card.Card.{Card}
-use Rattle.card.specs.Replies.{Reply, posted_exact, quotient_posted}
-use Rattle.card.specs.Tallies.{Tally, tally, with_raised}
+use Rattle.card.specs.Replies.{Reply, posted_exact}
+use Rattle.card.specs.Tallies.{After, Tally, posted_quotient, tally, with_raised}
+use Rattle.card.proofs.Replies.{said_of_state}
 use Rattle.runs.specs.declared.running.Ran.{Ran}
 use Rattle.runs.specs.Records.{Operands}
 use Rattle.runs.specs.Runs.{RunEnd, record_posted, run_in}
@@ -85,12 +86,12 @@ module _ (s number : ℕ) (a : Account) (k l : Desk) (g : Agrees s a k) (t : Tak
 -- a draft of p is finished on a desk that agrees with the account
 module _ (s : ℕ) (a : Account) (l : Desk) (g : Agrees s a l) (p : Operands) (d : Draft) (h : DraftOf (held d) p.0 p.1) where
   pub posted_comes : (r : Result (Unit {0}) Fault) (c : Card)
-      → ((n m : ℕ) → StandsFor (held d) n m → ◌≡◌ {A = Reply Tally (Unit {0})} (record { answer = r; state = tally c }) (quotient_posted l.setting.mode (held d).sign n m (tally l.card)))
+      → ((n m : ℕ) → StandsFor (held d) n m → ◌≡◌ {A = After (Unit {0})} (record { answer = r; card = tally c }) (posted_quotient l.setting.mode (held d).sign n m (tally l.card)))
       → ComesTo s (draft_posted s (Some p) a) (answered r) (record { setting = l.setting; card = c; begun = l.begun })
   posted_comes r c e =
       let q = exact_quotient p.0 p.1 in
       let b : ◌≡◌ {A = Reply Tally (Unit {0})} (record { answer = r; state = tally c }) (posted_exact a.mode q (tally l.card)) =
-      posted.draft_posted l.setting.mode (tally l.card) (held d) p.0 p.1 _ h e
+      posted.draft_posted l.setting.mode (tally l.card) (held d) p.0 p.1 _ h (λ n m t. said_of_state l.setting.mode _ n m (tally l.card) _ (e n m t))
       ∙ ap (λ x. posted_exact l.setting.mode x (tally l.card)) (sym h.is) ∙ ap (λ m. posted_exact m q (tally l.card)) g.mode in
       let alike = posting_alike s a.standing (tally l.card) g.carries a.mode q (exact_divided p.0 p.1) in
       record {

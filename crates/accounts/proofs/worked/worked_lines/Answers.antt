@@ -7,6 +7,6 @@ use Rattle.accounts.proofs.worked.worked_lines.Goals as goal
 pub returns : goal.returns
 returns c =
     record {
-      totals = λ i. ((c.totals-of.ensures ∙ postings_computed) i, (c.totals-of-2.ensures ∙ round_computed) i);
+      totals = λ i. ((c.totals_of.ensures ∙ postings_computed) i, (c.totals_of-2.ensures ∙ round_computed) i);
       definitions = computed;
     }

@@ -26,11 +26,11 @@ loop-call-preserved g c =
     let e = fold_more (onward claim s) (record { account = fresh; outcomes = [] }) c.args.calls.now c.loop-call.call-index (SetMode 0) c.loop-call-test.true in
     let f = c.perform-outcome.ensures.follows s so_far.account c.loop-call.invariant.0 in (
       subst (λ (p : Course). Agrees s p.account c.perform-outcome.new.self) (sym e) f.agrees,
-      c.push-reserved.ensures.items ∙ ap (λ (os : List Outcome). os ++ (c.perform-outcome.result ∷ [])) c.loop-call.invariant.1 ∙ ap (λ (o : Outcome). so_far.outcomes ++ (o ∷ [])) f.outcome ∙ ap (λ (p : Course). p.outcomes) (sym e),
+      c.push_reserved.ensures.items ∙ ap (λ (os : List Outcome). os ++ (c.perform-outcome.result ∷ [])) c.loop-call.invariant.1 ∙ ap (λ (o : Outcome). so_far.outcomes ++ (o ∷ [])) f.outcome ∙ ap (λ (p : Course). p.outcomes) (sym e),
       omega (arith, c.perform-outcome.ensures.room.len),
-      omega (arith, c.push-reserved.ensures.len),
+      omega (arith, c.push_reserved.ensures.len),
       omega (arith, c.perform-outcome.ensures.room.cap),
-      omega (arith, c.push-reserved.ensures.capacity),
+      omega (arith, c.push_reserved.ensures.capacity),
     )
 
 -- the room suffices, and so the step does

@@ -28,11 +28,11 @@ module _ (z a : ℤ) (small : nat_abs z ≤ 3990) (low : negsuc 0 ≤ℤ a) (hig
 
 pub returns : goal.returns
 returns c =
-    let z : ℤ = c.above-rating.result in
+    let z : ℤ = c.above_rating.result in
     let a : ℤ = c.args.adjustment in
-    let k = c.above-rating.ensures.small in
+    let k = c.above_rating.ensures.small in
     let w = whole z a k c.requires.1.1.0 c.requires.1.1.1 in
     record {
-      value = w ∙ ap (λ x. pos 113 *ℤ (x -ℤ pos 10 *ℤ a)) c.above-rating.ensures.value;
+      value = w ∙ ap (λ x. pos 113 *ℤ (x -ℤ pos 10 *ℤ a)) c.above_rating.ensures.value;
       small = subst (λ x. nat_abs x < 10000000) (sym w) (size z a k c.requires.1.1.0 c.requires.1.1.1);
     }

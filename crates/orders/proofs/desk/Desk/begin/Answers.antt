@@ -14,26 +14,26 @@ pub returns-in-Ok : goal.returns-in-Ok
 returns-in-Ok g c =
     let k = c.args.self.now in
     let claim = g.S.Source.claim c.args.source.now in
-    let l : Desk = record { setting = k.setting; card = k.card; begun = c.push-reserved.new.self } in
-    let p : Operands = (datum c.read-word.result, datum c.read-word-2.result) in
-    let e : p ≡ pair_operands c.args.pair = λ i. (c.read-word.ensures.number i, c.read-word-2.ensures.number i) in
+    let l : Desk = record { setting = k.setting; card = k.card; begun = c.push_reserved.new.self } in
+    let p : Operands = (datum c.read_word.result, datum c.read_word-2.result) in
+    let e : p ≡ pair_operands c.args.pair = λ i. (c.read_word.ensures.number i, c.read_word-2.ensures.number i) in
     record {
       follows = λ s a h.
           subst (λ o. ComesTo s (begun claim o a) Done l) e
-          (begun_comes claim s a k l h p (g.S.Source.reciprocal c.args.source.now) refl refl c.in-Ok.draft c.in-Ok.ensures.held c.in-Ok.ensures.stands c.push-reserved.ensures.items);
-      room = record { cap = c.push-reserved.ensures.capacity; len = omega (arith, c.push-reserved.ensures.len) };
+          (begun_comes claim s a k l h p (g.S.Source.reciprocal c.args.source.now) refl refl c.in-Ok.draft c.in-Ok.ensures.held c.in-Ok.ensures.stands c.push_reserved.ensures.items);
+      room = record { cap = c.push_reserved.ensures.capacity; len = omega (arith, c.push_reserved.ensures.len) };
     }
 
 pub returns-in-Err : goal.returns-in-Err
 returns-in-Err g c =
     let k = c.args.self.now in
     let claim = g.S.Source.claim c.args.source.now in
-    let l : Desk = record { setting = k.setting; card = k.card; begun = c.push-reserved-in-Err.new.self } in
-    let p : Operands = (datum c.read-word.result, datum c.read-word-2.result) in
-    let e : p ≡ pair_operands c.args.pair = λ i. (c.read-word.ensures.number i, c.read-word-2.ensures.number i) in
+    let l : Desk = record { setting = k.setting; card = k.card; begun = c.push_reserved-in-Err.new.self } in
+    let p : Operands = (datum c.read_word.result, datum c.read_word-2.result) in
+    let e : p ≡ pair_operands c.args.pair = λ i. (c.read_word.ensures.number i, c.read_word-2.ensures.number i) in
     record {
       follows = λ s a h.
           subst (λ o. ComesTo s (begun claim o a) (Refused c.in-Err.fault) l) e
-          (refused_comes claim s a k l h p (g.S.Source.reciprocal c.args.source.now) refl refl c.in-Err.fault c.in-Err.ensures.held c.push-reserved-in-Err.ensures.items);
-      room = record { cap = c.push-reserved-in-Err.ensures.capacity; len = omega (arith, c.push-reserved-in-Err.ensures.len) };
+          (refused_comes claim s a k l h p (g.S.Source.reciprocal c.args.source.now) refl refl c.in-Err.fault c.in-Err.ensures.held c.push_reserved-in-Err.ensures.items);
+      room = record { cap = c.push_reserved-in-Err.ensures.capacity; len = omega (arith, c.push_reserved-in-Err.ensures.len) };
     }

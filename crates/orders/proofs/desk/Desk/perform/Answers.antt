@@ -8,8 +8,8 @@ use Rattle.orders.proofs.desk.Desk.perform.Goals as goal
 pub returns-in-SetMode : goal.returns-in-SetMode
 returns-in-SetMode g c =
     record {
-      follows = subst (λ (k : Call). Follows (g.S.Source.claim c.args.source.now) k c.args.self.now c.set-mode.result c.set-mode.new.self) (sym c.in-SetMode.is) (c.set-mode.ensures.follows (g.S.Source.claim c.args.source.now));
-      room = c.set-mode.ensures.room;
+      follows = subst (λ (k : Call). Follows (g.S.Source.claim c.args.source.now) k c.args.self.now c.set_mode.result c.set_mode.new.self) (sym c.in-SetMode.is) (c.set_mode.ensures.follows (g.S.Source.claim c.args.source.now));
+      room = c.set_mode.ensures.room;
     }
 
 pub returns-in-Divide : goal.returns-in-Divide
@@ -43,22 +43,22 @@ returns-in-Post g c =
 pub returns-in-StrikeOut : goal.returns-in-StrikeOut
 returns-in-StrikeOut g c =
     record {
-      follows = subst (λ (k : Call). Follows (g.S.Source.claim c.args.source.now) k c.args.self.now c.strike-out.result c.strike-out.new.self) (sym c.in-StrikeOut.is) (c.strike-out.ensures.follows (g.S.Source.claim c.args.source.now));
-      room = c.strike-out.ensures.room;
+      follows = subst (λ (k : Call). Follows (g.S.Source.claim c.args.source.now) k c.args.self.now c.strike_out.result c.strike_out.new.self) (sym c.in-StrikeOut.is) (c.strike_out.ensures.follows (g.S.Source.claim c.args.source.now));
+      room = c.strike_out.ensures.room;
     }
 
 pub returns-in-RunPairs : goal.returns-in-RunPairs
 returns-in-RunPairs g c =
     record {
-      follows = subst (λ (k : Call). Follows (g.S.Source.claim c.args.source.now) k c.args.self.now c.run-over.result c.run-over.new.self) (sym c.in-RunPairs.is) c.run-over.ensures.runs;
-      room = c.run-over.ensures.room;
+      follows = subst (λ (k : Call). Follows (g.S.Source.claim c.args.source.now) k c.args.self.now c.run_over.result c.run_over.new.self) (sym c.in-RunPairs.is) c.run_over.ensures.runs;
+      room = c.run_over.ensures.room;
     }
 
 pub returns-in-RunRounds : goal.returns-in-RunRounds
 returns-in-RunRounds g c =
     record {
-      follows = subst (λ (k : Call). Follows (g.S.Source.claim c.args.source.now) k c.args.self.now c.run-over-in-RunRounds.result c.run-over-in-RunRounds.new.self) (sym c.in-RunRounds.is) c.run-over-in-RunRounds.ensures.runs;
-      room = c.run-over-in-RunRounds.ensures.room;
+      follows = subst (λ (k : Call). Follows (g.S.Source.claim c.args.source.now) k c.args.self.now c.run_over-in-RunRounds.result c.run_over-in-RunRounds.new.self) (sym c.in-RunRounds.is) c.run_over-in-RunRounds.ensures.runs;
+      room = c.run_over-in-RunRounds.ensures.room;
     }
 
 pub returns-in-Lower : goal.returns-in-Lower

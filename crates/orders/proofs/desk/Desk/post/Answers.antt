@@ -17,7 +17,7 @@ returns-in-Some c =
     record {
       follows = λ claim s a g.
           some_comes s n a k l g t (λ o. draft_posted s o (ended n a)) c.in-Some.draft _ m (sym c.in-Some.is ∙ c.take.ensures.value)
-          (λ p h. subst (λ o. ComesTo s (draft_posted s (Some p) (ended n a)) o m) (sym c.done-or-refused.ensures)
+          (λ p h. subst (λ o. ComesTo s (draft_posted s (Some p) (ended n a)) o m) (sym c.done_or_refused.ensures)
           (posted_comes s (ended n a) l (taken s n a k l g t) p c.in-Some.draft h c.post.result c.post.new.self c.post.ensures));
       room = record { cap = c.take.ensures.room.cap; len = c.take.ensures.room.len };
     }

@@ -15,7 +15,7 @@ returns-in-Some c =
     record {
       follows = λ claim s a g.
           some_comes s n a k l g t (λ o. draft_rounded o (ended n a)) c.in-Some.draft _ _ (sym c.in-Some.is ∙ c.take.ensures.value)
-          (λ p h. rounded_comes s (ended n a) l (taken s n a k l g t) p c.in-Some.draft h q.result c.write-word.result q.new.self c.write-word.ensures.word q.ensures.value q.ensures.raised);
+          (λ p h. rounded_comes s (ended n a) l (taken s n a k l g t) p c.in-Some.draft h q.result c.write_word.result q.new.self c.write_word.ensures.word q.ensures.value q.ensures.raised);
       room = record { cap = c.take.ensures.room.cap; len = c.take.ensures.room.len };
     }
 

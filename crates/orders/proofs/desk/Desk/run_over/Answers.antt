@@ -10,6 +10,6 @@ returns g c =
     record {
       runs = λ s a h.
           ran_comes (g.S.Source.claim c.args.source.now) s g.R.Record.operands_or_fault c.args.mode c.args.records.now a k
-          (record { setting = c.run.new.setting; card = c.run.new.card; begun = k.begun }) c.run.result h c.run.ensures.ran c.run.ensures.mode-restored refl;
+          (record { setting = c.run.new.setting; card = c.run.new.card; begun = k.begun }) c.run.result h c.run.ensures.ran c.run.ensures.mode_restored refl;
       room = record { cap = refl; len = omega arith };
     }

@@ -27,10 +27,10 @@ returns c =
     let z-fits : to_z w32 (of_z w32 z) ≡ z = omega (arith, ints, c.tenths-dividend.ensures.small) in
     let fits : SFits w32 r.adjustment = search rules in
     let a_is : to_z w32 (of_z w32 r.adjustment) ≡ r.adjustment = to_z-of_z w32 r.adjustment fits in
-    let y : datum c.whole-number.result ≡ whole_datum (round_tenths r.gross r.rating r.adjustment) (negsuc 0) =
-    c.whole-number.ensures ∙ ap (λ v. whole_datum v (negsuc 0)) (z-fits ∙ c.tenths-dividend.ensures.value ∙ ap (round_tenths r.gross r.rating) a_is) in
-    let within : round_in_range r ≡ true = sym c.is-in-range.ensures ∙ c.if-not-is-in-range.false in
+    let y : datum c.whole_number.result ≡ whole_datum (round_tenths r.gross r.rating r.adjustment) (negsuc 0) =
+    c.whole_number.ensures ∙ ap (λ v. whole_datum v (negsuc 0)) (z-fits ∙ c.tenths-dividend.ensures.value ∙ ap (round_tenths r.gross r.rating) a_is) in
+    let within : round_in_range r ≡ true = sym c.is_in_range.ensures ∙ c.if-not-is_in_range.false in
     let slope : r.slope ≤ 155 = slope_most r within in
     let s-is : to_z w32 r.slope ≡ pos r.slope = omega (arith, ints) in
-    let x : datum c.whole-number-2.result ≡ whole_datum (pos r.slope) (pos 0) = c.whole-number-2.ensures ∙ ap (λ v. whole_datum v (pos 0)) s-is in
+    let x : datum c.whole_number-2.result ≡ whole_datum (pos r.slope) (pos 0) = c.whole_number-2.ensures ∙ ap (λ v. whole_datum v (pos 0)) s-is in
     (λ i. Ok (y i, x i)) ∙ sym (cond-true (round_in_range r) _ _ within)
