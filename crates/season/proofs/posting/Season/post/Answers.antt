@@ -9,7 +9,7 @@ returns g c =
       answer = c.tell.ensures
           ∙ ap₂ told (ap (λ e. e.ran.fault) c.run-ran.ensures.ran) (
           ap (λ e. e.state) c.run.ensures.ran
-          ∙ ap (λ t. (round_run (g.S.Source.claim c.args.source.now) c.args.self.now.mode c.args.round t).state) c.open-card-alone.ensures
+          ∙ ap (λ t. (round_run (g.S.Source.claim c.args.source.now) c.args.self.now.mode c.args.round t).state) c.open_card-alone.ensures
           );
       after = ap (λ e. e.state) c.run-ran.ensures.ran;
       mode = refl;
