@@ -1,24 +1,23 @@
 -- What a call does to a card is what it does to the account. Assumes nothing.
-use Rattle.std.proofs.Common.{◌≡◌, ℕ, ◌+◌, ◌*◌, ◌^◌, ◌<◌, ◌≤◌, Bool, true, false, cond, eqb, ltb, leb, List, [], length, ℤ, pos, ◌+ℤ◌, Some, None, Ok, Err, Result, sym, refl, ap, ◌∙◌, subst, inl, inr, add_comm, mul-pos, arith}
+use Rattle.std.proofs.Common.{◌≡◌, ℕ, ◌+◌, ◌<◌, Bool, true, false, cond, eqb, ltb, leb, List, [], length, pos, ◌+ℤ◌, Ok, Err, Result, sym, refl, ap, ◌∙◌, subst, inl, inr, add_comm, mul-pos, arith}
 use lib.IntN.{+ℤ_comm}
 use Rattle.std.proofs.lemmas.Bool.{cases_lt, eqb-false}
 use Rattle.refusals.specs.declared.Fault.{Fault}
-use Rattle.rounding.specs.declared.sign.Sign.{Sign}
 use Rattle.rounding.specs.declared.mode.Mode.{Mode}
 use Rattle.rounding.specs.declared.flags.Flags.{Flags}
 use Rattle.rounding.specs.Flags.{raised_by_either}
 use Rattle.decimal.specs.Numbers.{Datum, finite, infinite, quiet, signalling}
 use Rattle.quotient.specs.Quotients.{decimal32, inexact_flags, quotient_bottom}
-use Rattle.quotient.specs.Splits.{split_at, split_by, unit_in}
+use Rattle.quotient.specs.Splits.{split_at, split_by}
 use Rattle.quotient.proofs.Exponent.{tens_pos}
 use Rattle.divider.specs.Drafts.{counted}
 use Rattle.divider.specs.Exact.{Exact, exact_quotient, begun_quotient}
-use Rattle.card.specs.Replies.{Reply, judged_posted, posted_exact}
+use Rattle.card.specs.Replies.{judged_posted, posted_exact}
 use Rattle.card.specs.Tallies.{Tally, added, cleared, judged, lowered, opened, with_raised}
 use Rattle.runs.specs.Records.{Operands, record_quotient}
 use Rattle.runs.specs.Runs.{record_posted, run_in}
 use Rattle.runs.proofs.Follows.{Alike, EndsAlike, run_alike}
-use Rattle.accounts.specs.Exact.{in_steps, is_large, is_whole_number, value}
+use Rattle.accounts.specs.Exact.{in_steps, is_large, is_whole_number}
 use Rattle.accounts.specs.Account.{Item, Standing, fresh, item_posted, posting, record_posting, with_flags, with_item, without_flags, without_items}
 use Rattle.accounts.specs.Law.{Carries, Totals, total_of, floor, figure, ceiling, inexact_near, inexact_far}
 

@@ -1,6 +1,6 @@
 -- The account of an order of calls, from their arguments alone: the mode last set without refusal, the two numbers of each open draft, the
 -- quotients posted since the last clearing, each in its mode, and the flags raised since the last lowering. Assumes nothing.
-use Rattle.std.specs.Prelude.{ℕ, false, cond, List, [], ◌∷◌, ◌++◌, length, set, Some, None, Ok, Err, fold, Option, Result, nat_le, slice_index_or, slice_set}
+use Rattle.std.specs.Prelude.{ℕ, false, cond, List, [], ◌∷◌, ◌++◌, length, Some, None, Ok, Err, fold, Option, Result, nat_le, slice_index_or, slice_set}
 use Rattle.std.specs.Result.{result_unwrap_or}
 use Rattle.refusals.specs.declared.Fault.{Fault}
 use Rattle.refusals.specs.declared.Refusal.TheVariants.{CardFull, QuotientTooLarge}
@@ -15,8 +15,6 @@ use Rattle.divider.specs.declared.outcome.QuotientWord.{QuotientWord}
 use Rattle.divider.specs.Divisions.{number_quotient, word_division, word_outcome}
 use Rattle.divider.specs.Exact.{Exact, exact_quotient, begun_quotient}
 use Rattle.card.specs.Replies.{Reply, turned_away}
-use Rattle.runs.specs.declared.records.Pair.{Pair}
-use Rattle.runs.specs.declared.running.Ran.{Ran}
 use Rattle.runs.specs.Records.{Operands, pair_operands, round_judged, record_quotient}
 use Rattle.runs.specs.Runs.{RunEnd, run_in}
 use Rattle.accounts.specs.declared.calls.Call.{Call}

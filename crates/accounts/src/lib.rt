@@ -1,5 +1,6 @@
 // Calls of a season, what each answers, and the account that they come to, from their arguments alone.
 #![tactic(auto)]
+
 mod calls;
 mod worked;
 

@@ -1,5 +1,5 @@
 -- What a call does to the desk is what it does to the account. Assumes nothing.
-use Rattle.std.proofs.Common.{◌≡◌, ℕ, zero, suc, List, [], ◌∷◌, ◌++◌, get_or, set, Some, None, Ok, Err, vec_items, Option, Result, sym, refl, ap, ◌∙◌, subst, arith}
+use Rattle.std.proofs.Common.{◌≡◌, ℕ, zero, suc, List, [], ◌∷◌, ◌++◌, get_or, set, Some, None, Ok, Err, vec_items, Option, Result, sym, refl, ap, ◌∙◌, subst}
 use Rattle.refusals.specs.declared.Fault.{Fault}
 use Rattle.rounding.specs.Modes.{mode_numbered}
 use Rattle.decimal.specs.Words.{word_of}
@@ -10,7 +10,7 @@ use Rattle.divider.specs.declared.outcome.Quotient.{Quotient}
 use Rattle.divider.specs.declared.outcome.QuotientWord.{QuotientWord}
 use Rattle.divider.specs.Drafts.{StandsFor, StandsForQuotient, begin_by, held}
 use Rattle.divider.specs.Divisions.{number_quotient, outcome, under_sign, word_outcome}
-use Rattle.divider.specs.Exact.{DraftOf, begun_quotient, exact_quotient}
+use Rattle.divider.specs.Exact.{DraftOf, exact_quotient}
 use Rattle.divider.proofs.Exact.{draft_of, begun_exact, refused_alike}
 use Rattle.card.specs.declared.card.Card.{Card}
 use Rattle.card.specs.Replies.{Reply, posted_exact}

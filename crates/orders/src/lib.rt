@@ -1,5 +1,6 @@
 // Orders of calls on a new card, and the law that holds over every one of them.
 #![tactic(auto)]
+
 mod desk;
 mod replaying;
 mod room;

@@ -1,5 +1,6 @@
 // Carries out an order of calls on a new season card, answers each of them, and tells the card at the end.
 #![tactic(auto)]
+
 mod answer;
 mod order;
 mod parts;

@@ -3,7 +3,7 @@ use Rattle.std.proofs.Common.{◌≡◌, ℕ, ◌+◌, ◌<◌, ◌≤◌, List,
 use Rattle.std.proofs.lemmas.List.{at_drop_more, at_drop_all}
 use Rattle.refusals.specs.declared.Fault.{Fault}
 use Rattle.card.specs.Replies.{Reply}
-use Rattle.runs.specs.Runs.{RunEnd, run_from, by_answer, ran_through, stopped_at}
+use Rattle.runs.specs.Runs.{run_from, by_answer, ran_through, stopped_at}
 
 module _ {X S : Type 0} (post : X → S → Reply S (Unit {0})) (i : ℕ) (s : S) (xs : List X) where
   module _ (x : X) (within : i < length xs) (read : x ≡ get_or xs i x) (r : Result (Unit {0}) Fault) (t : S) (was : ◌≡◌ {A = Reply S (Unit {0})} (record { answer = r; state = t }) (post x s)) where

@@ -1,5 +1,6 @@
 // Posting runs: a card takes a list of records, each a pair of words or a golf round, in a mode of the run's own.
 #![tactic(auto)]
+
 mod mode;
 mod records;
 mod running;

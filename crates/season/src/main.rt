@@ -1,5 +1,6 @@
 // Posts golf rounds, a line each, on a season card, and tells what each of them adds and what the season comes to.
 #![tactic(auto)]
+
 mod answers;
 mod lines;
 mod posting;

@@ -1,6 +1,6 @@
 -- Call by call the desk agrees with the account.
 -- Assumes nothing.
-use Rattle.std.proofs.Common.{◌≡◌, ℕ, ◌≤◌, min, Bool, true, false, cond, ltb, List, [], ◌∷◌, ◌++◌, length, take, None, Ok, vec_items, vec_len, vec_capacity, sym, refl, ap, ◌∙◌, subst, arith}
+use Rattle.std.proofs.Common.{◌≡◌, ℕ, ◌≤◌, min, Bool, true, false, ltb, List, [], ◌∷◌, ◌++◌, length, take, None, Ok, vec_items, vec_len, vec_capacity, sym, refl, ap, ◌∙◌, subst, arith}
 use Rattle.std.proofs.lemmas.List.{nil_from_length, take_all}
 use Rattle.std.proofs.lemmas.List.Sums.{fold_more}
 use Rattle.std.proofs.lemmas.Bool.{cond-false, le-ltb, ltb-false}
@@ -13,8 +13,7 @@ use Rattle.accounts.specs.Account.{Course, course, fresh, onward}
 use Rattle.accounts.specs.Law.{Carries}
 use Rattle.accounts.proofs.Beside.{modes_mean}
 use Rattle.accounts.proofs.Sums.{bounds}
-use Rattle.orders.specs.declared.desk.Desk.{Desk}
-use Rattle.orders.specs.Desks.{Agrees, ComesTo}
+use Rattle.orders.specs.Desks.{Agrees}
 use Rattle.orders.specs.Laws.{not_replayed}
 use Rattle.orders.proofs.replaying.replay.Goals as goal
 

@@ -1,6 +1,6 @@
 -- No sum leaves 32 bits.
 -- Assumes nothing.
-use Rattle.std.proofs.Common.{◌≡◌, ℕ, ◌*◌, ◌<◌, ◌≤◌, ℤ, pos, negsuc, ◌-ℤ◌, ◌*ℤ◌, nat_abs, ◌≤ℤ◌, sym, ap, ◌∙◌, subst, arith, w32, SFits, to_z, of_z}
+use Rattle.std.proofs.Common.{◌≡◌, ◌<◌, ◌≤◌, ℤ, pos, negsuc, ◌-ℤ◌, ◌*ℤ◌, nat_abs, ◌≤ℤ◌, sym, ap, ◌∙◌, subst, arith, w32, SFits, to_z, of_z}
 use borrow.Author.Differences.{product_is}
 use Rattle.std.proofs.lemmas.Int.{ints, to_z-of_z}
 use Rattle.runs.proofs.records.tenths.Goals as goal

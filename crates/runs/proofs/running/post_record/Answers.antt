@@ -1,6 +1,6 @@
 -- The draft that is posted is of the record's two numbers.
 -- Assumes nothing.
-use Rattle.std.proofs.Common.{◌≡◌, Ok, Err, sym, ap, ◌∙◌}
+use Rattle.std.proofs.Common.{sym, ap, ◌∙◌}
 use Rattle.std.proofs.lemmas.Result.{err_from_is_err_and}
 use Rattle.decimal.specs.Numbers.{Datum, datum}
 use Rattle.divider.specs.Drafts.{held, held_result}

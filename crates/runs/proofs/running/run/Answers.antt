@@ -1,6 +1,6 @@
 -- Each turn takes one record off the run that is left.
 -- Assumes nothing.
-use Rattle.std.proofs.Common.{◌≡◌, ℕ, List, length, Ok, Err, Result, sym, ap, ◌∙◌, arith, rules}
+use Rattle.std.proofs.Common.{◌≡◌, ℕ, List, length, Ok, Result, sym, ap, ◌∙◌, arith, rules}
 use Rattle.refusals.specs.declared.Fault.{Fault}
 use Rattle.rounding.specs.declared.mode.Mode.{Mode}
 use Rattle.rounding.specs.Modes.{mode_numbered}
@@ -8,7 +8,6 @@ use Rattle.card.specs.Replies.{Reply}
 use Rattle.card.specs.Tallies.{Tally, tally}
 use Rattle.runs.specs.Runs.{ran_through, record_posted, run_from, run_in}
 use Rattle.runs.proofs.Turns.{at_post, at_refusal, at_end}
-use Rattle.runs.proofs.running.run.Given as given
 use Rattle.runs.proofs.running.run.Goals as goal
 
 -- the run in the mode that was judged

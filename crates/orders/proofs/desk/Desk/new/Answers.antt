@@ -1,6 +1,6 @@
 -- A new desk agrees with a new account.
 -- Assumes nothing.
-use Rattle.std.proofs.Common.{◌≡◌, vec_items, sym, refl, subst, arith}
+use Rattle.std.proofs.Common.{vec_items, sym, refl, subst, arith}
 use Rattle.std.proofs.lemmas.List.{nil_from_length}
 use Rattle.accounts.specs.Account.{fresh}
 use Rattle.accounts.specs.Law.{Carries}
