@@ -2,7 +2,7 @@
 use Rattle.std.proofs.Common.{◌≡◌, ℕ, ◌+◌, ◌*◌, ◌<◌, ◌≤◌, Bool, true, false, cond, not, ◌&&◌, List, [], ◌∷◌, ℤ, pos, ◌+ℤ◌, ◌-ℤ◌, ◌*ℤ◌, nat_abs, ◌≤ℤ◌, refl, ap, mul-le-mul_right, mul-pos, arith}
 use borrow.Author.Differences.{up, down, sum_is_lem, same_in}
 use Rattle.std.proofs.lemmas.Int.{ints}
-use Rattle.std.specs.List.{AllByRecursion as All}
+use Rattle.std.specs.List.{AllByRecursion}
 use Rattle.rounding.specs.declared.mode.Mode.TheVariants.{Floor}
 use Rattle.card.specs.Tallies.{Tally, is_near}
 use Rattle.accounts.specs.Exact.{fraction, value, is_whole_number}
@@ -17,7 +17,7 @@ abbrev fars : List Item → ℕ
 fars items = count_of inexact_far items
 
 abbrev pub Divided : List Item → Type 0
-Divided items = All (λ x. 0 < x.quotient.bottom) items
+Divided items = AllByRecursion (λ x. 0 < x.quotient.bottom) items
 
 -- All in naturals: the exact sum lies r parts above the sum of the floors, and the sum of the values u steps.
 record Held (items : List Item) : Type 0 where

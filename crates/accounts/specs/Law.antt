@@ -1,6 +1,6 @@
 -- What a card holds beside the account of the calls that were made on it. Assumes nothing.
 use Rattle.std.specs.Prelude.{◌≡◌, ℕ, ◌+◌, ◌*◌, ◌<◌, ◌≤◌, Bool, cond, not, ◌&&◌, List, [], ◌∷◌, map, length, ℤ, pos, ◌+ℤ◌, ◌-ℤ◌, ◌*ℤ◌, ◌≤ℤ◌, unsigned_abs}
-use Rattle.std.specs.List.{AllByRecursion as All}
+use Rattle.std.specs.List.{AllByRecursion}
 use Rattle.rounding.specs.declared.mode.Mode.TheVariants.{Ceiling, Floor}
 use Rattle.card.specs.Tallies.{Tally, is_near}
 use Rattle.accounts.specs.Exact.{Fraction, value, is_whole_number, sum_of}
@@ -55,4 +55,4 @@ pub record Carries (s : ℕ) (a : Standing) (t : Tally) : Type 0 where
   pub step : t.step ≡ s
   pub flags : t.flags ≡ a.flags
   pub totals : Totals a.items t
-  pub divided : All (λ x. 0 < x.quotient.bottom) a.items
+  pub divided : AllByRecursion (λ x. 0 < x.quotient.bottom) a.items

@@ -7,8 +7,8 @@ use Rattle.divide.specs.declared.request.Defect.{Defect}
 use Rattle.divide.specs.declared.request.Defect.TheVariants.{Mode, Dividend, Divisor}
 
 -- the value of a digit at this place of a number of at most nine
-abbrev pub digit_at : ℕ → ℕ → Option ℕ
-digit_at i b = cond (nat_lt i 9 && (nat_le 48 b && nat_le b 57)) (Some (b - 48)) None
+abbrev pub mode_digit : ℕ → ℕ → Option ℕ
+mode_digit i b = cond (nat_lt i 9 && (nat_le 48 b && nat_le b 57)) (Some (b - 48)) None
 
 -- what follows a digit, if there is one
 abbrev pub and_then : Option ℕ → (ℕ → Option (ℕ × ℕ)) → Option (ℕ × ℕ)
@@ -18,7 +18,7 @@ and_then (Some d) f = f d
 -- a number and the blank that ends it, of which i digits, with the value n, are read: the number, and where the next field begins
 abbrev pub mode_from : ℕ → ℕ → List ℕ → Option (ℕ × ℕ)
 mode_from i n [] = None
-mode_from i n (b ∷ bs) = cond (b == 32) (cond (i == 0) None (Some (n, i + 1))) (and_then (digit_at i b) (λ d. mode_from (i + 1) (n * 10 + d) bs))
+mode_from i n (b ∷ bs) = cond (b == 32) (cond (i == 0) None (Some (n, i + 1))) (and_then (mode_digit i b) (λ d. mode_from (i + 1) (n * 10 + d) bs))
 
 abbrev pub mode_in : List ℕ → Option (ℕ × ℕ)
 mode_in bs = mode_from 0 0 bs

@@ -1,6 +1,6 @@
 // What a line asks for.
 ghost use Rattle.std.specs.Prelude.{◌≡◌, ℕ, ◌+◌, ◌<◌, ◌≤◌, List, length, take, IfSome, OnSome};
-ghost use Rattle.divide.specs.Requests.{digit_at, ended_word, mode_in, request_in};
+ghost use Rattle.divide.specs.Requests.{mode_digit, ended_word, mode_in, request_in};
 
 use text::read_word_digits;
 
@@ -22,7 +22,7 @@ pub enum Defect {
 
 // The value of a digit at this place of a number of at most nine.
 fn digit_at(place: usize, byte: u8) -> Option<u32>
-    ensures value { result ≡ digit_at place byte }
+    ensures value { result ≡ mode_digit place byte }
     ensures small { IfSome result (λ d. (d < 10) × (place < 9)) }
 {
     if place < 9 && byte >= 48 && byte <= 57 {

@@ -4,7 +4,7 @@ ghost use Rattle.rounding.specs.Rounding.{rounded_at, is_whole};
 ghost use Rattle.quotient.specs.Drafts.{Cut, Drafted, InRange, Stripped, sticky};
 ghost use Rattle.quotient.specs.Laws.{DefinitionStands};
 ghost use Rattle.quotient.specs.Quotients.{decimal32, divided, inexact_flags, to_infinity};
-ghost use Rattle.quotient.specs.Quotients.{overflow as overflow-of};
+ghost use Rattle.quotient.specs.Quotients.{overflow as overflow_of};
 
 use crate::types::{Leading, Magnitude, Rounded};
 use rounding::{Flags, Mode, Position, Sign};
@@ -101,7 +101,7 @@ fn goes_to_infinity(mode: Mode, sign: Sign) -> bool
 }
 
 fn overflow(mode: Mode, sign: Sign) -> Rounded
-    ensures { result ≡ overflow-of decimal32 mode sign }
+    ensures { result ≡ overflow_of decimal32 mode sign }
 {
     let magnitude = if goes_to_infinity(mode, sign) {
         Magnitude::Infinite
