@@ -12,8 +12,9 @@ use Rattle.quotient.specs.Splits.{split_at, split_by}
 use Rattle.quotient.proofs.Exponent.{tens_pos}
 use Rattle.divider.specs.Drafts.{counted}
 use Rattle.divider.specs.Exact.{Exact, exact_quotient, begun_quotient}
-use Rattle.card.specs.Replies.{judged_posted, posted_exact}
-use Rattle.card.specs.Tallies.{Tally, added, cleared, judged, lowered, opened, with_raised}
+use Rattle.card.specs.Replies.{Reply, posted_exact, reply}
+use Rattle.card.specs.Tallies.{Tally, added, cleared, lowered, opened, posted_steps, refused, with_raised}
+use Rattle.refusals.specs.declared.Refusal.TheVariants.{CardFull}
 use Rattle.runs.specs.Records.{Operands, record_quotient}
 use Rattle.runs.specs.Runs.{record_posted, run_in}
 use Rattle.runs.proofs.Follows.{Alike, EndsAlike, run_alike}
@@ -79,13 +80,16 @@ module _ (s : ℕ) (a : Standing) (t : Tally) (h : Carries s a t) where
         divided = (pos-bottom, h.divided);
       }
 
+  -- the posting of a quotient on a card that counts n postings, in steps of 10^-k
+  abbrev on_card : Mode → Exact → ℕ → ℕ → Reply Tally (Unit {0})
+  on_card m q n k = reply (cond (leb 10000 n) (refused CardFull t) (posted_steps m q.sign (split_at decimal32 k q.top q.bottom) t))
+
   -- a posting is refused alike, or adds its item
-  item_alike : (m : Mode) (q : Exact) → 0 < q.bottom
-      → Alike (λ b c. Carries s c b) (judged_posted m q.sign (judged (length a.items) (split_at decimal32 s q.top q.bottom)) t) (item_posted m (in_steps s q) a)
+  item_alike : (m : Mode) (q : Exact) → 0 < q.bottom → Alike (λ b c. Carries s c b) (on_card m q (length a.items) s) (item_posted m (in_steps s q) a)
   item_alike m q pos-bottom = by (leb 10000 (length a.items)) (is_large (in_steps s q)) refl refl
     where
       by : (full large : Bool) → leb 10000 (length a.items) ≡ full → is_large (in_steps s q) ≡ large
-          → Alike (λ b c. Carries s c b) (judged_posted m q.sign (judged (length a.items) (split_at decimal32 s q.top q.bottom)) t) (item_posted m (in_steps s q) a)
+          → Alike (λ b c. Carries s c b) (on_card m q (length a.items) s) (item_posted m (in_steps s q) a)
       by true large e l = rw e (record { same = refl; kept = h })
       by false true e l = rw (e, l) (record { same = refl; kept = h })
       by false false e l = rw (e, l) (record { same = refl; kept = added_carried m (in_steps s q) (mul-pos pos-bottom (tens_pos _)) })
@@ -93,8 +97,8 @@ module _ (s : ℕ) (a : Standing) (t : Tally) (h : Carries s a t) where
   pub posting_alike : (m : Mode) (e : Result Exact Fault) → ((q : Exact) → e ≡ Ok q → 0 < q.bottom) → Alike (λ b c. Carries s c b) (posted_exact m e t) (posting s m e a)
   posting_alike m (Err f) k = record { same = refl; kept = h }
   posting_alike m (Ok q) k =
-      subst (λ n. Alike (λ b c. Carries s c b) (judged_posted m q.sign (judged n (split_at decimal32 t.step q.top q.bottom)) t) (item_posted m (in_steps s q) a)) (sym h.totals.posted_is_their_number)
-      (subst (λ n. Alike (λ b c. Carries s c b) (judged_posted m q.sign (judged (length a.items) (split_at decimal32 n q.top q.bottom)) t) (item_posted m (in_steps s q) a)) (sym h.step)
+      subst (λ n. Alike (λ b c. Carries s c b) (on_card m q n t.step) (item_posted m (in_steps s q) a)) (sym h.totals.posted_is_their_number)
+      (subst (λ n. Alike (λ b c. Carries s c b) (on_card m q (length a.items) n) (item_posted m (in_steps s q) a)) (sym h.step)
       (item_alike m q (k q refl)))
 
 -- an exact quotient has a divisor

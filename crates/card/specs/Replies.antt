@@ -1,13 +1,9 @@
 -- What a call answers and what it leaves, over any kind of state. Assumes nothing.
-use Rattle.std.specs.Prelude.{ℕ, Ok, Err, Result}
+use Rattle.std.specs.Prelude.{Ok, Err, Result}
 use Rattle.refusals.specs.declared.Fault.{Fault}
-use Rattle.rounding.specs.declared.sign.Sign.{Sign}
 use Rattle.rounding.specs.declared.mode.Mode.{Mode}
-use Rattle.quotient.specs.Quotients.{decimal32}
-use Rattle.quotient.specs.declared.types.Split.{Split}
-use Rattle.quotient.specs.Splits.{split_at}
 use Rattle.divider.specs.Exact.{Exact}
-use Rattle.card.specs.Tallies.{Tally, added, judged}
+use Rattle.card.specs.Tallies.{Tally, After, posted_quotient}
 
 pub record Reply (S X : Type 0) : Type 0 where
   pub answer : Result X Fault
@@ -16,15 +12,11 @@ pub record Reply (S X : Type 0) : Type 0 where
 abbrev pub turned_away : {S X : Type 0} → Fault → S → Reply S X
 turned_away f s = record { answer = Err f; state = s }
 
-abbrev pub judged_posted : Mode → Sign → Result Split Fault → Tally → Reply Tally (Unit {0})
-judged_posted mode s (Err f) t = turned_away f t
-judged_posted mode s (Ok p) t = record { answer = Ok tt; state = added mode s p t }
-
--- the posting of the fraction n / d, in units of the least exponent
-abbrev pub quotient_posted : Mode → Sign → ℕ → ℕ → Tally → Reply Tally (Unit {0})
-quotient_posted mode s n d t = judged_posted mode s (judged t.posted (split_at decimal32 t.step n d)) t
+-- what a call on a card answers, and the card that it leaves
+abbrev pub reply : {X : Type 0} → After X → Reply Tally X
+reply a = record { answer = a.answer; state = a.card }
 
 -- the posting of an exact quotient, if there is one
 abbrev pub posted_exact : Mode → Result Exact Fault → Tally → Reply Tally (Unit {0})
 posted_exact mode (Err f) t = turned_away f t
-posted_exact mode (Ok q) t = quotient_posted mode q.sign q.top q.bottom t
+posted_exact mode (Ok q) t = reply (posted_quotient mode q.sign q.top q.bottom t)

@@ -99,14 +99,6 @@ pub record After (X : Type 0) : Type 0 where
 abbrev pub refused : {X : Type 0} → Refusal → Tally → After X
 refused r t = record { answer = Err (at_no_place r); card = t }
 
--- what is to be posted on a card with so many postings, or why nothing is
-abbrev pub not_too_large : Option Split → Result Split Fault
-not_too_large None = Err (at_no_place QuotientTooLarge)
-not_too_large (Some p) = Ok p
-
-abbrev pub judged : ℕ → Option Split → Result Split Fault
-judged posted steps = cond (nat_le 10000 posted) (Err (at_no_place CardFull)) (not_too_large steps)
-
 -- a quotient of 10^7 steps or more is refused
 abbrev pub posted_steps : Mode → Sign → Option Split → Tally → After (Unit {0})
 posted_steps mode s None t = refused QuotientTooLarge t

@@ -6,7 +6,7 @@ ghost use Rattle.rounding.specs.Flags.{raised_by_either};
 ghost use Rattle.quotient.specs.Quotients.{decimal32, divided, inexact_flags};
 ghost use Rattle.divider.specs.Divisions.{outcome, under_sign, word_division};
 ghost use Rattle.divider.specs.Drafts.{StandsFor, held};
-ghost use Rattle.card.specs.Tallies.{After, added, after_division, cleared, is_near, judged, lowered, posted_quotient, tally, with_raised};
+ghost use Rattle.card.specs.Tallies.{After, added, after_division, cleared, is_near, lowered, posted_quotient, tally, with_raised};
 
 use crate::card::Card;
 use crate::setting::Setting;
@@ -107,27 +107,6 @@ fn flags_after(flags: Flags, exact: bool) -> Flags
     })
 }
 
-// What is to be posted on a card with so many postings: it is full, or the quotient is too large.
-fn judge(posted: u32, steps: Option<Split>) -> Result<Split, Fault>
-    requires { IfSome steps (λ p. p.floor < 10000000) }
-    ensures value { result ≡ judged posted steps }
-    ensures small { IfOk result (λ p. p.floor < 10000000) }
-{
-    if posted >= 10_000 {
-        return Err(Fault {
-            refusal: Refusal::CardFull,
-            place: 0,
-        });
-    }
-    match steps {
-        Some(split) => Ok(split),
-        None => Err(Fault {
-            refusal: Refusal::QuotientTooLarge,
-            place: 0,
-        }),
-    }
-}
-
 // The card with one posting more.
 fn with_posting(card: Card, mode: Mode, sign: Sign, split: Split) -> Card
     requires { (card.posted < 10000) × (split.floor < 10000000) }
@@ -184,7 +163,18 @@ impl Card {
         ensures { (n d : ℕ) → StandsFor (held draft) n d → ◌≡◌ {A = After (Unit {0})} (record { answer = result; card = tally self.new }) (posted_quotient setting.now.mode (held draft).sign n d (tally self.old)) }
     {
         let (sign, steps) = draft.in_steps(self.step as u16);
-        let split = judge(self.posted, steps)?;
+        if self.posted >= 10_000 {
+            return Err(Fault {
+                refusal: Refusal::CardFull,
+                place: 0,
+            });
+        }
+        let Some(split) = steps else {
+            return Err(Fault {
+                refusal: Refusal::QuotientTooLarge,
+                place: 0,
+            });
+        };
         *self = with_posting(*self, setting.mode, sign, split);
         Ok(())
     }

@@ -15,7 +15,6 @@ use Rattle.divider.proofs.Exact.{draft_of, begun_exact, refused_alike}
 use Rattle.card.specs.declared.card.Card.{Card}
 use Rattle.card.specs.Replies.{Reply, posted_exact}
 use Rattle.card.specs.Tallies.{After, Tally, posted_quotient, tally, with_raised}
-use Rattle.card.proofs.Replies.{said_of_state}
 use Rattle.runs.specs.declared.running.Ran.{Ran}
 use Rattle.runs.specs.Records.{Operands}
 use Rattle.runs.specs.Runs.{RunEnd, record_posted, run_in}
@@ -91,7 +90,7 @@ module _ (s : ℕ) (a : Account) (l : Desk) (g : Agrees s a l) (p : Operands) (d
   posted_comes r c e =
       let q = exact_quotient p.0 p.1 in
       let b : ◌≡◌ {A = Reply Tally (Unit {0})} (record { answer = r; state = tally c }) (posted_exact a.mode q (tally l.card)) =
-      posted.draft_posted l.setting.mode (tally l.card) (held d) p.0 p.1 _ h (λ n m t. said_of_state l.setting.mode _ n m (tally l.card) _ (e n m t))
+      posted.draft_posted l.setting.mode (tally l.card) (held d) p.0 p.1 _ h e
       ∙ ap (λ x. posted_exact l.setting.mode x (tally l.card)) (sym h.is) ∙ ap (λ m. posted_exact m q (tally l.card)) g.mode in
       let alike = posting_alike s a.standing (tally l.card) g.carries a.mode q (exact_divided p.0 p.1) in
       record {

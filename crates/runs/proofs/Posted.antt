@@ -6,19 +6,19 @@ use Rattle.decimal.specs.Numbers.{Datum}
 use Rattle.divider.specs.Drafts.{Begun, StandsFor, StandsForQuotient, begin_by}
 use Rattle.divider.specs.Exact.{DraftOf}
 use Rattle.divider.proofs.Exact.{draft_of, begun_exact, refused_alike}
-use Rattle.card.specs.Replies.{Reply, posted_exact, quotient_posted, turned_away}
-use Rattle.card.specs.Tallies.{Tally}
+use Rattle.card.specs.Replies.{posted_exact, reply, turned_away}
+use Rattle.card.specs.Tallies.{After, Tally, posted_quotient}
 use Rattle.runs.specs.Records.{Operands, record_quotient}
 
 -- whatever fraction the draft stands for is posted, so the exact quotient is
-pub draft_posted : (mode : Mode) (t : Tally) (b : Begun) (y x : Datum) (a : Reply Tally (Unit {0})) (d : DraftOf b y x)
-    → ((n m : ℕ) → StandsFor b n m → a ≡ quotient_posted mode b.sign n m t) → a ≡ posted_exact mode (Ok d.exact) t
+pub draft_posted : (mode : Mode) (t : Tally) (b : Begun) (y x : Datum) (a : After (Unit {0})) (d : DraftOf b y x)
+    → ((n m : ℕ) → StandsFor b n m → a ≡ posted_quotient mode b.sign n m t) → reply a ≡ posted_exact mode (Ok d.exact) t
 draft_posted mode t b y x a d h =
-    h d.exact.top d.exact.bottom d.stands ∙ ap (λ s. quotient_posted mode s d.exact.top d.exact.bottom t) d.sign
+    ap reply (h d.exact.top d.exact.bottom d.stands ∙ ap (λ s. posted_quotient mode s d.exact.top d.exact.bottom t) d.sign)
 
 module _ (claim : ℕ) (reciprocal : ℕ → ℕ) (mode : Mode) (t : Tally) (o : Result Operands Fault) (y x : Datum) (e : Ok (y, x) ≡ o) where
-  pub record_taken : (b : Begun) (a : Reply Tally (Unit {0})) → Ok b ≡ begin_by claim reciprocal y x → StandsForQuotient b y x
-      → ((n m : ℕ) → StandsFor b n m → a ≡ quotient_posted mode b.sign n m t) → a ≡ posted_exact mode (record_quotient claim o) t
+  pub record_taken : (b : Begun) (a : After (Unit {0})) → Ok b ≡ begin_by claim reciprocal y x → StandsForQuotient b y x
+      → ((n m : ℕ) → StandsFor b n m → a ≡ posted_quotient mode b.sign n m t) → reply a ≡ posted_exact mode (record_quotient claim o) t
   record_taken b a h k p =
       let d = draft_of claim reciprocal b y x h k in
       draft_posted mode t b y x a d p

@@ -5,7 +5,6 @@ use Rattle.std.proofs.lemmas.Result.{err_from_is_err_and}
 use Rattle.decimal.specs.Numbers.{Datum, datum}
 use Rattle.divider.specs.Drafts.{held, held_result}
 use Rattle.card.specs.Tallies.{tally}
-use Rattle.card.proofs.Replies.{said_of_state}
 use Rattle.runs.specs.Records.{meant}
 use Rattle.runs.proofs.Posted.{record_taken, record_refused}
 use Rattle.runs.proofs.running.post_record.Goals as goal
@@ -26,4 +25,4 @@ returns g c =
     let o = ap meant (sym c.in_ok-dividend.was) ∙ c.operands.ensures in
     let h = ap held_result (sym c.in_ok-draft.was) ∙ c.begin.ensures.held in
     record_taken (g.S.Source.claim c.args.source.now) (g.S.Source.reciprocal c.args.source.now) c.args.setting.now.mode (tally c.args.card.now) _ y x o
-    (held c.in_ok-draft.draft) _ h c.in_ok-draft.ensures.stands (λ n m s. said_of_state c.args.setting.now.mode _ n m (tally c.args.card.now) _ (c.post.ensures n m s))
+    (held c.in_ok-draft.draft) _ h c.in_ok-draft.ensures.stands c.post.ensures
