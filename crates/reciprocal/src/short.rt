@@ -1,7 +1,7 @@
 // Reciprocals by short division: the largest lawful answer.
 ghost use Rattle.std.specs.Prelude.{◌≡◌, ◌≤◌};
 ghost use Rattle.reciprocal.specs.Sources.{lawful_claim, short_reciprocal};
-ghost use Rattle.std.proofs.Common.{arith, rules};
+ghost use Rattle.std.proofs.Common.{arith};
 ghost use Rattle.reciprocal.specs.Division;
 
 use crate::powers::power_of_ten;
@@ -31,7 +31,7 @@ impl Source for ShortDivision {
 
     ghost reciprocal = { λ s d. short_reciprocal s.claim d };
 
-    ghost claims = { first_of (Prim.search rules, Prim.grind (arith, Self.row.coded.inj)) };
+    ghost claims = { λ s. s.limits };
 
     ghost approximates = { λ s d lo hi. Division.approximates s.claim d (omega arith) };
 
