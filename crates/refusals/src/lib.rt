@@ -2,37 +2,37 @@
 #![tactic(auto)]
 
 ghost use Rattle.std.specs.Prelude.{◌≡◌};
-ghost use Rattle.refusals.specs.Refusals.{refusal_number, refusal_layer, layer_number};
+ghost use Rattle.refusals.specs.Refusals.{at_no_place, layer_number, refusal_layer, refusal_number};
 
-/// The part of the program that a refusal belongs to, whichever call tells of it.
+/// The part of the program that a refusal belongs to, whichever call tells of it. An answer names it by its number.
 #[derive(Clone, Copy)]
 pub enum Layer {
-    Numbers,
-    Source,
-    Divider,
-    Card,
-    Sheet,
+    Numbers = 1,
+    Source = 2,
+    Divider = 3,
+    Card = 4,
+    Sheet = 5,
 }
 
-/// Why a call was refused. Where several reasons hold at once, the first of this list is told.
+/// Why a call was refused. Where several reasons hold at once, the first of this list is told. An answer names it by its number.
 #[derive(Clone, Copy)]
 pub enum Refusal {
-    SheetTooLong,
-    AnswerSpaceShort,
-    LineLength,
-    UnknownLetter,
-    NotANumber,
-    CoefficientTooLarge,
-    ExponentOutOfRange,
-    RoundOutOfRange,
-    UnknownMode,
-    UnknownStep,
-    ClaimUnderNine,
-    DivisorNotSevenDigits,
-    OperandNotFinite,
-    ZeroDivisor,
-    CardFull,
-    QuotientTooLarge,
+    SheetTooLong = 1,
+    AnswerSpaceShort = 2,
+    LineLength = 3,
+    UnknownLetter = 4,
+    NotANumber = 5,
+    CoefficientTooLarge = 6,
+    ExponentOutOfRange = 7,
+    RoundOutOfRange = 8,
+    UnknownMode = 9,
+    UnknownStep = 10,
+    ClaimUnderNine = 11,
+    DivisorNotSevenDigits = 12,
+    OperandNotFinite = 13,
+    ZeroDivisor = 14,
+    CardFull = 15,
+    QuotientTooLarge = 16,
 }
 
 /// A refusal and its place: a record's index in a run, a column on a sheet, and 0 elsewhere.
@@ -42,46 +42,31 @@ pub struct Fault {
     pub place: usize,
 }
 
-impl Layer {
-    /// The number by which an answer names the layer.
-    pub fn number(self) -> u8
-        ensures { result ≡ layer_number self }
-    {
-        match self {
-            Layer::Numbers => 1,
-            Layer::Source => 2,
-            Layer::Divider => 3,
-            Layer::Card => 4,
-            Layer::Sheet => 5,
-        }
+impl From<Layer> for u8 {
+    ghost from_gives = { λ layer number. number ≡ layer_number layer };
+
+    fn from(layer: Layer) -> u8 {
+        layer as u8
+    }
+}
+
+impl From<Refusal> for u8 {
+    ghost from_gives = { λ refusal number. number ≡ refusal_number refusal };
+
+    fn from(refusal: Refusal) -> u8 {
+        refusal as u8
+    }
+}
+
+impl From<Refusal> for Fault {
+    ghost from_gives = { λ refusal fault. fault ≡ at_no_place refusal };
+
+    fn from(refusal: Refusal) -> Fault {
+        Fault { refusal, place: 0 }
     }
 }
 
 impl Refusal {
-    /// The number by which an answer names the refusal: its place in the list, from one.
-    pub fn number(self) -> u8
-        ensures { result ≡ refusal_number self }
-    {
-        match self {
-            Refusal::SheetTooLong => 1,
-            Refusal::AnswerSpaceShort => 2,
-            Refusal::LineLength => 3,
-            Refusal::UnknownLetter => 4,
-            Refusal::NotANumber => 5,
-            Refusal::CoefficientTooLarge => 6,
-            Refusal::ExponentOutOfRange => 7,
-            Refusal::RoundOutOfRange => 8,
-            Refusal::UnknownMode => 9,
-            Refusal::UnknownStep => 10,
-            Refusal::ClaimUnderNine => 11,
-            Refusal::DivisorNotSevenDigits => 12,
-            Refusal::OperandNotFinite => 13,
-            Refusal::ZeroDivisor => 14,
-            Refusal::CardFull => 15,
-            Refusal::QuotientTooLarge => 16,
-        }
-    }
-
     /// The layer that the refusal belongs to.
     pub fn layer(self) -> Layer
         ensures { result ≡ refusal_layer self }

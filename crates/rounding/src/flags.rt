@@ -1,9 +1,9 @@
 // The exception flags of IEEE 754.
 ghost use Rattle.std.specs.Prelude.{◌≡◌};
-ghost use Rattle.rounding.specs.Flags.{no_flags, raised_by_either, flags_number};
+ghost use Rattle.rounding.specs.Flags.{flags_number, no_flags, raised_by_either};
 
-/// Which exceptions an operation raised, or which stand raised.
-#[derive(Clone, Copy)]
+/// Which exceptions an operation raised, or which stand raised. None is by default.
+#[derive(Clone, Copy, PartialEq, Eq, Default)]
 pub struct Flags {
     pub inexact: bool,
     pub underflow: bool,
@@ -17,13 +17,7 @@ impl Flags {
     pub fn none() -> Flags
         ensures { result ≡ no_flags }
     {
-        Flags {
-            inexact: false,
-            underflow: false,
-            overflow: false,
-            division_by_zero: false,
-            invalid: false,
-        }
+        Flags::default()
     }
 
     /// The flags that either raised.
@@ -38,15 +32,17 @@ impl Flags {
             invalid: self.invalid || other.invalid,
         }
     }
+}
 
-    /// The flags as one number, the sum of 1 inexact, 2 underflow, 4 overflow, 8 division by zero and 16 invalid.
-    pub fn number(self) -> u8
-        ensures { result ≡ flags_number self }
-    {
-        self.inexact as u8
-            + 2 * self.underflow as u8
-            + 4 * self.overflow as u8
-            + 8 * self.division_by_zero as u8
-            + 16 * self.invalid as u8
+/// The flags as one number, the sum of 1 inexact, 2 underflow, 4 overflow, 8 division by zero and 16 invalid.
+impl From<Flags> for u8 {
+    ghost from_gives = { λ flags number. number ≡ flags_number flags };
+
+    fn from(flags: Flags) -> u8 {
+        u8::from(flags.inexact)
+            + 2 * u8::from(flags.underflow)
+            + 4 * u8::from(flags.overflow)
+            + 8 * u8::from(flags.division_by_zero)
+            + 16 * u8::from(flags.invalid)
     }
 }
