@@ -12,16 +12,10 @@ impl Finite {
         ensures { finite_seen result ≡ finite_made sign coefficient exponent }
     {
         if coefficient > 9_999_999 {
-            return Err(Fault {
-                refusal: Refusal::CoefficientTooLarge,
-                place: 0,
-            });
+            return Err(Refusal::CoefficientTooLarge.into());
         }
-        if exponent < -101 || exponent > 90 {
-            return Err(Fault {
-                refusal: Refusal::ExponentOutOfRange,
-                place: 0,
-            });
+        if !(-101..=90).contains(&exponent) {
+            return Err(Refusal::ExponentOutOfRange.into());
         }
         Ok(Finite {
             sign,

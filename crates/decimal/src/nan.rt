@@ -12,10 +12,7 @@ impl Nan {
         ensures { nan_seen result ≡ nan_made sign payload }
     {
         if payload > 999_999 {
-            return Err(Fault {
-                refusal: Refusal::CoefficientTooLarge,
-                place: 0,
-            });
+            return Err(Refusal::CoefficientTooLarge.into());
         }
         Ok(Nan { sign, payload })
     }

@@ -1,7 +1,7 @@
 // The words of decimal32: any word read, any number written.
 ghost use Rattle.std.specs.Prelude.{◌≡◌, ◌<◌, true};
 ghost use Rattle.decimal.specs.Numbers.{datum};
-ghost use Rattle.decimal.specs.Words.{decimal32, number_of, word_of, canonical, sign_of, sign_bit, sign_field, declets_field, combination_of, declets_value, declets_of, number_of_fields, word_of_fields};
+ghost use Rattle.decimal.specs.Words.{decimal32, number_of, word_of, canonical, sign_of, sign_bit, sign_field, declets_field, combination_of, declets_value, declets_of, exponent_lead, leading_digit, number_of_fields, word_of_fields};
 
 use crate::declet::{read_declet, write_declet};
 use crate::number::{Finite, Nan, Number};
@@ -26,39 +26,56 @@ fn read_digits(word: u32) -> u32
     read_declet(word / 1024) * 1000 + read_declet(word)
 }
 
+// The leading digit that a combination field gives.
+fn read_leading_digit(combination: u32) -> u32
+    ensures value { result ≡ leading_digit combination }
+    ensures small { result < 10 }
+{
+    if combination < 24 {
+        combination % 8
+    } else {
+        8 + combination % 2
+    }
+}
+
+// The exponent's two leading bits that a combination field gives.
+fn read_exponent_lead(combination: u32) -> u32
+    requires { combination < 30 }
+    ensures value { result ≡ exponent_lead combination }
+    ensures small { result < 3 }
+{
+    if combination < 24 {
+        combination / 8
+    } else {
+        combination / 2 % 4
+    }
+}
+
 // The number of a word's fields.
 fn read_fields(sign: Sign, combination: u32, continuation: u32, digits: u32) -> Number
     requires { (combination < 32) × ((continuation < 64) × (digits < 1000000)) }
     ensures { datum result ≡ number_of_fields decimal32 sign combination continuation digits }
 {
-    if combination < 24 {
-        let coefficient = combination % 8 * 1_000_000 + digits;
-        let exponent = (combination / 8 * 64 + continuation) as i32 - 101;
-        Number::Finite(Finite {
+    if combination < 30 {
+        let coefficient = read_leading_digit(combination) * 1_000_000 + digits;
+        let exponent = (read_exponent_lead(combination) * 64 + continuation) as i32 - 101;
+        return Number::Finite(Finite {
             sign,
             coefficient,
             exponent,
-        })
-    } else if combination < 30 {
-        let coefficient = (8 + combination % 2) * 1_000_000 + digits;
-        let exponent = (combination / 2 % 4 * 64 + continuation) as i32 - 101;
-        Number::Finite(Finite {
-            sign,
-            coefficient,
-            exponent,
-        })
-    } else if combination == 30 {
-        Number::Infinite(sign)
-    } else if continuation < 32 {
-        Number::QuietNan(Nan {
-            sign,
-            payload: digits,
-        })
+        });
+    }
+    if combination == 30 {
+        return Number::Infinite(sign);
+    }
+    let nan = Nan {
+        sign,
+        payload: digits,
+    };
+    if continuation < 32 {
+        Number::QuietNan(nan)
     } else {
-        Number::SignallingNan(Nan {
-            sign,
-            payload: digits,
-        })
+        Number::SignallingNan(nan)
     }
 }
 
