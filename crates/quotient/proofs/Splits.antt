@@ -5,16 +5,15 @@ use Rattle.rounding.specs.declared.mode.Position.{Position}
 use Rattle.rounding.specs.declared.mode.Position.TheVariants.{Whole}
 use Rattle.rounding.specs.Rounding.{position}
 use Rattle.rounding.proofs.Meant.{placed_whole}
-use Rattle.quotient.specs.declared.types.Split.{Split}
 use Rattle.quotient.specs.Quotients.{decimal32}
 use Rattle.quotient.specs.Drafts.{Drafted, sticky}
-use Rattle.quotient.specs.Splits.{split_by, unit_in, split_at}
+use Rattle.quotient.specs.Splits.{Between, split_by, unit_in, split_at}
 use Rattle.quotient.proofs.Exponent.{tens_pos, tens_least, parts, cut_at, below, clamped}
 
 unit_pos : (s d : ℕ) → 0 < d → 0 < unit_in decimal32 s d
 unit_pos s d h = mul-pos h (tens_pos (101 - s))
 
-same_split : {a b : ℕ} {p q : Position} → a ≡ b → p ≡ q → ◌≡◌ {A = Split} (record { floor = a; position = p }) (record { floor = b; position = q })
+same_split : {a b : ℕ} {p q : Position} → a ≡ b → p ≡ q → ◌≡◌ {A = Between} (record { floor = a; position = p }) (record { floor = b; position = q })
 same_split e f = λ i. record { floor = e i; position = f i }
 
 -- less than 10^7 units
@@ -50,17 +49,13 @@ split_large {q} {place = place} {n = n} {d = d} s h l t =
     sym (cond-true (leb (10000000 * unit_in decimal32 s d) n) _ _ (le-leb (10000000 * unit_in decimal32 s d) n m))
 
 -- one digit or more behind it
-pub split_cut : {q : ℕ} {left : Bool} {place n d : ℕ} (s gone u : ℕ) (p : Position) → q < 100000000 → 101 - s + 104 ≡ place + gone → 1 ≤ gone → u ≡ 10 ^ min gone 9 → p ≡ sticky (q % u) u left
-    → Drafted 104 q left place n d → Some (record { floor = q / u; position = p }) ≡ split_at decimal32 s n d
-split_cut {q} {left} {place} {n} {d} s gone u p h sum one unit at t =
+pub split_cut : {q : ℕ} {left : Bool} {place n d : ℕ} (s gone f : ℕ) (p : Position) → q < 100000000 → 101 - s + 104 ≡ place + gone → 1 ≤ gone
+    → f ≡ q / 10 ^ min gone 9 → p ≡ sticky (q % 10 ^ min gone 9) (10 ^ min gone 9) left
+    → Drafted 104 q left place n d → Some (record { floor = f; position = p }) ≡ split_at decimal32 s n d
+split_cut {q} {left} {place} {n} {d} s gone f p h sum one whole at t =
     let k : ℕ = 101 - s in
     let c = cut_at 104 q left place n d k gone t sum one in
     let same = clamped q gone 9 left (omega arith) in
     let ten : 10 ^ 1 ≤ 10 ^ gone = tens_least 1 gone one in
     let less : n < d * 10 ^ k * 10000000 = below 10000000 (parts 104 q left place n d k gone t sum one) h ten in
-    sym (
-    small s n d (omega arith)
-    ∙ ap Some (same_split
-    (c.floor ∙ sym same.floor ∙ ap (λ x. q / x) (sym unit))
-    (c.place ∙ sym same.place ∙ ap (λ x. sticky (q % x) x left) (sym unit) ∙ sym at))
-    )
+    sym (small s n d (omega arith) ∙ ap Some (same_split (c.floor ∙ sym same.floor ∙ sym whole) (c.place ∙ sym same.place ∙ sym at)))

@@ -10,10 +10,9 @@ use Rattle.rounding.specs.Flags.{no_flags}
 use Rattle.rounding.specs.declared.mode.Mode.TheVariants.{NearestEven, NearestZero, NearestAway, Ceiling, Floor, TowardZero, AwayFromZero}
 use Rattle.rounding.specs.declared.mode.Position.{Position}
 use Rattle.rounding.specs.declared.mode.Position.TheVariants.{Whole, Below, Middle, Above}
-use Rattle.quotient.specs.declared.types.Magnitude.TheVariants.{Finite, Infinite}
 use Rattle.rounding.specs.Rounding.{placed, position, is_whole, goes_up, is_odd, rounded_at}
-use Rattle.quotient.specs.Quotients.{Range, decimal32, to_infinity, exponent_of, under, preferred, divided, nonzero, finite, overflow, exact, inexact, inexact_flags}
-use Rattle.quotient.specs.Drafts.{Drafted, Stripped, sticky, InRange}
+use Rattle.quotient.specs.Quotients.{Range, exponent_of, under, preferred, divided, nonzero, finite, overflow, exact, inexact, inexact_flags}
+use Rattle.quotient.specs.Drafts.{Drafted, Stripped, sticky}
 use Rattle.quotient.proofs.Cut.{floors, same_place}
 use Rattle.quotient.proofs.Exponent.{tens_pos, tens_least, tenth, At, last, parts_of, below_less, above, too_low, exponent_is, exponent_past, Same, clamped}
 use Rattle.quotient.proofs.Preferred.{Shown, whole_is, preferred_is}
@@ -182,10 +181,3 @@ raised_small mode sign left q u T h b =
           ] in
           omega (arith, raised_most mode sign (q / u) (sticky (q % u) u left))
     ]
-
-pub overflow_in : (mode : Mode) (sign : Sign) → InRange (overflow decimal32 mode sign).magnitude
-overflow_in mode sign = by (to_infinity mode sign)
-  where
-    by : (b : Bool) → InRange (cond b Infinite (Finite 9999999 191))
-    by true = tt
-    by false = (omega arith, omega arith)

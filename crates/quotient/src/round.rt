@@ -1,74 +1,16 @@
 // The quotient rounded to decimal32, once.
-ghost use Rattle.std.specs.Prelude.{◌≡◌, ℕ, ◌+◌, ◌-◌, ◌^◌, ◌<◌, ◌≤◌, min, nat_lt};
-ghost use Rattle.rounding.specs.Rounding.{rounded_at, is_whole};
-ghost use Rattle.quotient.specs.Drafts.{Cut, Drafted, InRange, Stripped, sticky};
+ghost use Rattle.std.specs.Prelude.{◌≡◌, ℕ, ◌+◌, ◌-◌, ◌^◌, ◌<◌, ◌≤◌, nat_lt};
+ghost use Rattle.rounding.specs.Flags.{no_flags};
+ghost use Rattle.quotient.specs.Drafts.{Cut, Drafted, InRange, Stripped};
 ghost use Rattle.quotient.specs.Laws.{DefinitionStands};
-ghost use Rattle.quotient.specs.Quotients.{decimal32, divided, inexact_flags, to_infinity};
+ghost use Rattle.quotient.specs.Quotients.{decimal32, divided, finite, inexact_flags, to_infinity};
 ghost use Rattle.quotient.specs.Quotients.{overflow as overflow_of};
 
 use crate::types::{Leading, Magnitude, Rounded};
-use rounding::{Flags, Mode, Position, Sign};
+use rounding::{Flags, Mode, Sign};
 
-// The whole number under a magnitude at this position, or the next.
-fn raise(mode: Mode, sign: Sign, floor: u32, position: Position) -> u32
-    requires { floor < 10000000 }
-    ensures { result ≡ rounded_at mode sign floor position }
-{
-    if mode.rounds_up(sign, floor % 2 == 1, position) {
-        floor + 1
-    } else {
-        floor
-    }
-}
-
-fn is_exact(position: Position) -> bool
-    ensures { result ≡ is_whole position }
-{
-    match position {
-        Position::Whole => true,
-        Position::Below | Position::Middle | Position::Above => false,
-    }
-}
-
-// Where (rest + f) / unit lies, for a fraction f that is 0 exactly where nothing is left.
-pub(crate) fn locate(rest: u32, unit: u32, left: bool) -> Position
-    requires { (rest < unit) × (unit ≤ 1000000000) }
-    ensures { result ≡ sticky rest unit left }
-{
-    if 2 * rest < unit {
-        if rest == 0 && !left {
-            Position::Whole
-        } else {
-            Position::Below
-        }
-    } else if 2 * rest == unit && !left {
-        Position::Middle
-    } else {
-        Position::Above
-    }
-}
-
-// Ten to the number of digits that go; past nine it makes no difference.
-pub(crate) fn unit_of(digits: u16) -> u32
-    requires { 1 ≤ digits }
-    ensures value { result ≡ 10 ^ min digits 9 }
-    ensures least { 10 ≤ result }
-    ensures most { result ≤ 1000000000 }
-{
-    match digits {
-        1 => 10,
-        2 => 100,
-        3 => 1_000,
-        4 => 10_000,
-        5 => 100_000,
-        6 => 1_000_000,
-        7 => 10_000_000,
-        8 => 100_000_000,
-        _ => 1_000_000_000,
-    }
-}
-
-// Brings the exponent of an exact number up to the ideal one, as far as zeros at its end allow.
+// Brings the exponent of an exact number up to the ideal one, as far as zeros at its end allow. The exponent is no index: it is
+// answered, and how far it goes is told by the digits.
 fn strip(coefficient: u32, exponent: u16, ideal: u16) -> (u32, u16)
     requires { exponent ≤ 191 }
     ensures { Stripped 191 coefficient exponent ideal result.0 result.1 }
@@ -86,17 +28,9 @@ fn strip(coefficient: u32, exponent: u16, ideal: u16) -> (u32, u16)
 fn goes_to_infinity(mode: Mode, sign: Sign) -> bool
     ensures { result ≡ to_infinity mode sign }
 {
-    match mode {
-        Mode::NearestEven | Mode::NearestZero | Mode::NearestAway | Mode::AwayFromZero => true,
-        Mode::TowardZero => false,
-        Mode::Ceiling => match sign {
-            Sign::Plus => true,
-            Sign::Minus => false,
-        },
-        Mode::Floor => match sign {
-            Sign::Plus => false,
-            Sign::Minus => true,
-        },
+    match (mode, sign) {
+        (Mode::Ceiling, Sign::Minus) | (Mode::Floor, Sign::Plus) | (Mode::TowardZero, _) => false,
+        _ => true,
     }
 }
 
@@ -108,33 +42,34 @@ fn overflow(mode: Mode, sign: Sign) -> Rounded
     } else {
         Magnitude::Finite(9_999_999, 191)
     };
-    let flags = Flags {
-        inexact: true,
-        underflow: false,
-        overflow: true,
-        division_by_zero: false,
-        invalid: false,
-    };
-    Rounded { magnitude, flags }
+    Rounded {
+        magnitude,
+        flags: Flags {
+            inexact: true,
+            overflow: true,
+            ..Flags::none()
+        },
+    }
 }
 
-// The exponent of a zero.
-fn brought_in(ideal: u16) -> u16
-    ensures { result ≡ min 191 ideal }
+// A number that needed no rounding.
+fn exactly(coefficient: u32, exponent: u16) -> Rounded
+    ensures { result ≡ finite coefficient exponent no_flags }
 {
-    if ideal < 191 { ideal } else { 191 }
+    Rounded {
+        magnitude: Magnitude::Finite(coefficient, exponent),
+        flags: Flags::none(),
+    }
 }
 
 // The flags of a number that was rounded: inexact, and underflow where two digits or more went.
-fn flags_of(digits: u16) -> Flags
-    ensures { result ≡ inexact_flags (nat_lt 1 digits) }
+fn flags_of(gone: u16) -> Flags
+    ensures { result ≡ inexact_flags (nat_lt 1 gone) }
 {
     Flags {
         inexact: true,
-        underflow: digits > 1,
-        overflow: false,
-        division_by_zero: false,
-        invalid: false,
+        underflow: gone > 1,
+        ..Flags::none()
     }
 }
 
@@ -144,7 +79,7 @@ fn digits_cut(place: u16) -> u16
     ensures cut { Cut 104 place (place + result - 104) result }
     ensures small { result ≤ 104 }
 {
-    if place < 103 { 104 - place } else { 1 }
+    104_u16.saturating_sub(place).max(1)
 }
 
 impl Leading {
@@ -155,35 +90,21 @@ impl Leading {
         ensures small { InRange result.magnitude }
         ensures definition { DefinitionStands }
     {
-        let Leading {
-            digits,
-            left,
-            place,
-        } = self;
-        if digits == 0 {
-            return Rounded {
-                magnitude: Magnitude::Finite(0, brought_in(ideal)),
-                flags: Flags::none(),
-            };
+        if self.digits == 0 {
+            return exactly(0, ideal.min(191));
         }
-        let gone = digits_cut(place);
-        let exponent = place + gone - 104;
+        let gone = digits_cut(self.place);
+        let exponent = self.place + gone - 104;
         if exponent > 191 {
             return overflow(mode, sign);
         }
-        let unit = unit_of(gone);
-        let floor = digits / unit;
-        let position = locate(digits % unit, unit, left);
-        if is_exact(position) {
-            let (c, k) = strip(floor, exponent, ideal);
-            return Rounded {
-                magnitude: Magnitude::Finite(c, k),
-                flags: Flags::none(),
-            };
+        let split = self.cut(gone);
+        if split.position.is_whole() {
+            let (c, k) = strip(split.floor, exponent, ideal);
+            return exactly(c, k);
         }
-        let c = raise(mode, sign, floor, position);
         Rounded {
-            magnitude: Magnitude::Finite(c, exponent),
+            magnitude: Magnitude::Finite(split.rounded(mode, sign), exponent),
             flags: flags_of(gone),
         }
     }

@@ -1,39 +1,70 @@
-// The quotient split in units of a power of ten.
-ghost use Rattle.std.specs.Prelude.{◌≡◌, ℕ, ◌<◌, IfSome};
-ghost use Rattle.quotient.specs.Drafts.{Drafted};
+// The quotient split in units of a power of ten, and rounded to a whole number of them.
+ghost use Rattle.std.specs.Prelude.{◌≡◌, ℕ, ◌/◌, ◌%◌, ◌^◌, ◌<◌, ◌≤◌, min};
+ghost use Rattle.std.specs.Option.{option_map};
+ghost use Rattle.rounding.specs.Rounding.{rounded_at};
+ghost use Rattle.quotient.specs.Drafts.{Drafted, sticky};
 ghost use Rattle.quotient.specs.Quotients.{decimal32};
-ghost use Rattle.quotient.specs.Splits.{split_at};
+ghost use Rattle.quotient.specs.Splits.{between, split_at};
 
-use crate::round::{locate, unit_of};
 use crate::types::{Leading, Split};
-use rounding::Position;
+use rounding::{Mode, Position, Sign};
+
+// Where (rest + f) / unit lies, for a fraction f that is 0 exactly where nothing is left.
+fn locate(rest: u32, unit: u32, left: bool) -> Position
+    requires { (rest < unit) × (unit ≤ 1000000000) }
+    ensures { result ≡ sticky rest unit left }
+{
+    if 2 * rest < unit {
+        if rest == 0 && !left {
+            Position::Whole
+        } else {
+            Position::Below
+        }
+    } else if 2 * rest == unit && !left {
+        Position::Middle
+    } else {
+        Position::Above
+    }
+}
+
+impl Split {
+    /// The whole number that the mode makes of the magnitude under the sign.
+    pub fn rounded(self, mode: Mode, sign: Sign) -> u32
+        ensures { result ≡ rounded_at mode sign self.floor self.position }
+    {
+        self.floor + u32::from(mode.rounds_up(sign, self.floor % 2 == 1, self.position))
+    }
+}
 
 impl Leading {
+    // The leading digits split where so many of them go; past nine it makes no difference.
+    pub(crate) fn cut(self, gone: u16) -> Split
+        requires { 1 ≤ gone }
+        ensures floor { result.floor ≡ self.digits / 10 ^ min gone 9 }
+        ensures position { result.position ≡ sticky (self.digits % 10 ^ min gone 9) (10 ^ min gone 9) self.left }
+    {
+        let unit = 10_u32.pow(gone.min(9).into());
+        Split {
+            floor: self.digits / unit,
+            position: locate(self.digits % unit, unit, self.left),
+        }
+    }
+
     /// The quotient in units of 10^-scale, or nothing where it is 10,000,000 of them or more. Whatever fraction n / d these leading
     /// digits are of, in units of the least exponent, the answer is the definition's at n / d.
     pub fn split_at(self, scale: u16) -> Option<Split>
-        ensures value { (n d : ℕ) → Drafted 104 self.digits self.left self.place n d → result ≡ split_at decimal32 scale n d }
-        ensures small { IfSome result (λ p. p.floor < 10000000) }
+        ensures { (n d : ℕ) → Drafted 104 self.digits self.left self.place n d → option_map between result ≡ split_at decimal32 scale n d }
     {
-        let Leading {
-            digits,
-            left,
-            place,
-        } = self;
-        if digits == 0 {
+        if self.digits == 0 {
             return Some(Split {
                 floor: 0,
                 position: Position::Whole,
             });
         }
         let end = 205 - scale.min(101);
-        if place >= end {
+        if self.place >= end {
             return None;
         }
-        let unit = unit_of(end - place);
-        Some(Split {
-            floor: digits / unit,
-            position: locate(digits % unit, unit, left),
-        })
+        Some(self.cut(end - self.place))
     }
 }

@@ -1,4 +1,4 @@
-// A quotient by its leading digits, and a quotient rounded.
+// A quotient by its leading digits, split at a unit, and rounded.
 ghost use Rattle.std.specs.Prelude.{◌+◌, ◌<◌, ◌≤◌, if◌then◌else◌};
 
 use rounding::{Flags, Position};
@@ -15,6 +15,14 @@ pub struct Leading {
     ghost far: { place ≤ 395 },
 }
 
+/// A magnitude between two whole numbers: the one under it, of at most seven digits, and where it lies above that.
+#[derive(Clone, Copy)]
+pub struct Split {
+    pub floor: u32,
+    pub position: Position,
+    ghost small: { floor < 10000000 },
+}
+
 /// A coefficient with its exponent, which is written from 0: 101 more than it is.
 #[derive(Clone, Copy)]
 pub enum Magnitude {
@@ -27,11 +35,4 @@ pub enum Magnitude {
 pub struct Rounded {
     pub magnitude: Magnitude,
     pub flags: Flags,
-}
-
-/// A magnitude between two whole numbers: the one under it, and where it lies above that.
-#[derive(Clone, Copy)]
-pub struct Split {
-    pub floor: u32,
-    pub position: Position,
 }

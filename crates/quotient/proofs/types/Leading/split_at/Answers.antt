@@ -2,7 +2,6 @@
 -- Assumes nothing.
 use Rattle.std.proofs.Common.{◌≡◌, ℕ, zero, suc, ◌+◌, ◌-◌, ◌<◌, ◌≤◌, min, refl, arith}
 use Rattle.quotient.specs.declared.types.Leading.{Leading}
-use Rattle.quotient.proofs.Ways.{floor_small}
 use Rattle.quotient.proofs.Splits.{split_zero, split_large, split_cut}
 use Rattle.quotient.proofs.types.Leading.split_at.Goals as goal
 
@@ -17,22 +16,14 @@ eight l z = l.least (some l.digits z)
 end_is : (s m : ℕ) → m ≡ min s 101 → 101 - s + 104 ≡ 205 - m
 end_is s m e = omega arith
 
-pub returns-then-digits-eq0 : goal.returns-then-digits-eq0
-returns-then-digits-eq0 c = record { value = λ n d t. split_zero c.args.scale c.if-digits-eq0.true t; small = omega arith }
+pub returns-then-self-eq0 : goal.returns-then-self-eq0
+returns-then-self-eq0 c n d t = split_zero c.args.scale c.if-self-eq0.true t
 
-pub returns-then-place-end : goal.returns-then-place-end
-returns-then-place-end c =
-    record {
-      value = λ n d t.
-          split_large c.args.scale (eight c.args.self c.if-digits-eq0.false) (omega (arith, end_is c.args.scale c.min-end.result c.min-end.ensures, c.if-place-end.true)) t;
-      small = tt;
-    }
+pub returns-then-self-end : goal.returns-then-self-end
+returns-then-self-end c n d t =
+    split_large c.args.scale (eight c.args.self c.if-self-eq0.false) (omega (arith, end_is c.args.scale c.min-end.result c.min-end.ensures, c.if-self-end.true)) t
 
 pub returns : goal.returns
-returns c =
-    record {
-      value = λ n d t.
-          split_cut c.args.scale (205 - c.min-end.result - c.args.self.place) c.unit_of-unit.result c.locate.result (omega (arith, c.args.self.most))
-          (omega (arith, end_is c.args.scale c.min-end.result c.min-end.ensures, c.if-place-end.false)) (omega (arith, c.if-place-end.false)) c.unit_of-unit.ensures.value c.locate.ensures t;
-      small = floor_small c.args.self.digits c.unit_of-unit.result 10000000 (omega (arith, c.args.self.most)) c.unit_of-unit.ensures.least;
-    }
+returns c n d t =
+    split_cut c.args.scale (205 - c.min-end.result - c.args.self.place) c.cut.result.floor c.cut.result.position (omega (arith, c.args.self.most))
+    (omega (arith, end_is c.args.scale c.min-end.result c.min-end.ensures, c.if-self-end.false)) (omega (arith, c.if-self-end.false)) c.cut.ensures.floor c.cut.ensures.position t
