@@ -1,25 +1,23 @@
 // The quotient of two words.
 ghost use Rattle.std.specs.Prelude.{◌≡◌, ◌<◌, true, negsuc, Ok, Err};
-ghost use Rattle.decimal.specs.Numbers.{datum, finite, finite_datum, infinite, quiet};
+ghost use Rattle.decimal.specs.Numbers.{datum, finite};
 ghost use Rattle.divider.specs.Drafts.{counted, product_sign};
 ghost use Rattle.divider.specs.Divisions.{agreement, exactly, finite_quotient, invalid_flag, not_a_number, number_quotient, outcome, over_zero, word_division};
 
 use crate::begin::{begin_finite, multiply_signs};
+use crate::nine::NineDigits;
 use crate::outcome::{Quotient, QuotientWord};
-use decimal::{Finite, Nan, Number, read_word, write_word};
+use decimal::{Finite, Nan, Number, read_word};
 use reciprocal::Source;
-use refusals::{Fault, Refusal};
+use refusals::Fault;
 use rounding::{Flags, Mode, Sign};
 
 fn raised_invalid() -> Flags
     ensures { result ≡ invalid_flag }
 {
     Flags {
-        inexact: false,
-        underflow: false,
-        overflow: false,
-        division_by_zero: false,
         invalid: true,
+        ..Flags::none()
     }
 }
 
@@ -37,12 +35,12 @@ fn no_number(flags: Flags) -> Quotient
     }
 }
 
-// An infinity, exactly.
-fn infinity(sign: Sign) -> Quotient
-    ensures { outcome result ≡ exactly (infinite sign) }
+// A quotient that is a number, exactly.
+fn exact(number: Number) -> Quotient
+    ensures { outcome result ≡ exactly (datum number) }
 {
     Quotient {
-        number: Number::Infinite(sign),
+        number,
         flags: Flags::none(),
     }
 }
@@ -51,15 +49,11 @@ fn infinity(sign: Sign) -> Quotient
 fn vanishing(sign: Sign) -> Quotient
     ensures { outcome result ≡ exactly (finite sign 0 (negsuc 100)) }
 {
-    let zero = Finite {
+    exact(Number::Finite(Finite {
         sign,
         coefficient: 0,
         exponent: -101,
-    };
-    Quotient {
-        number: Number::Finite(zero),
-        flags: Flags::none(),
-    }
+    }))
 }
 
 // A finite number over a zero.
@@ -69,22 +63,17 @@ fn quotient_by_zero(sign: Sign, coefficient: u32) -> Quotient
     if coefficient == 0 {
         return no_number(raised_invalid());
     }
-    let flags = Flags {
-        inexact: false,
-        underflow: false,
-        overflow: false,
-        division_by_zero: true,
-        invalid: false,
-    };
     Quotient {
         number: Number::Infinite(sign),
-        flags,
+        flags: Flags {
+            division_by_zero: true,
+            ..Flags::none()
+        },
     }
 }
 
 // The quotient of two finite numbers.
-fn divide_finite<S: Source>(source: &S, mode: Mode, y: Finite, x: Finite) -> Quotient
-    requires { S.Source.claim source.now ≡ 9 }
+fn divide_finite<S: Source>(source: &NineDigits<S>, mode: Mode, y: Finite, x: Finite) -> Quotient
     ensures { outcome result ≡ finite_quotient mode (product_sign y.sign x.sign) y.coefficient (counted y.exponent) x.coefficient (counted x.exponent) }
 {
     if x.coefficient == 0 {
@@ -93,51 +82,21 @@ fn divide_finite<S: Source>(source: &S, mode: Mode, y: Finite, x: Finite) -> Quo
     begin_finite(source, y, x).round(mode)
 }
 
-// The quotient of a finite number and any other.
-fn divide_finite_by<S: Source>(source: &S, mode: Mode, y: Finite, x: &Number) -> Quotient
-    requires { S.Source.claim source.now ≡ 9 }
-    ensures { outcome result ≡ number_quotient mode (finite_datum y) (datum x.now) }
-{
-    match *x {
-        Number::Finite(x) => divide_finite(source, mode, y, x),
-        Number::Infinite(sign) => vanishing(multiply_signs(y.sign, sign)),
-        Number::QuietNan(_) => no_number(Flags::none()),
-        Number::SignallingNan(_) => no_number(raised_invalid()),
-    }
-}
-
-// The quotient of an infinity and any other.
-fn divide_infinity_by(sign: Sign, x: &Number) -> Quotient
-    ensures { (mode : Mode) → outcome result ≡ number_quotient mode (infinite sign) (datum x.now) }
-{
-    match *x {
-        Number::Finite(x) => infinity(multiply_signs(sign, x.sign)),
-        Number::Infinite(_) => no_number(raised_invalid()),
-        Number::QuietNan(_) => no_number(Flags::none()),
-        Number::SignallingNan(_) => no_number(raised_invalid()),
-    }
-}
-
-// The quotient of a quiet NaN and any other.
-fn divide_nan_by(nan: Nan, x: &Number) -> Quotient
-    ensures { (mode : Mode) → outcome result ≡ number_quotient mode (quiet nan.sign nan.payload) (datum x.now) }
-{
-    match *x {
-        Number::Finite(_) | Number::Infinite(_) | Number::QuietNan(_) => no_number(Flags::none()),
-        Number::SignallingNan(_) => no_number(raised_invalid()),
-    }
-}
-
 // The quotient of two numbers.
-fn divide_numbers<S: Source>(source: &S, mode: Mode, y: &Number, x: &Number) -> Quotient
-    requires { S.Source.claim source.now ≡ 9 }
-    ensures { outcome result ≡ number_quotient mode (datum y.now) (datum x.now) }
+fn divide_numbers<S: Source>(source: &NineDigits<S>, mode: Mode, y: Number, x: Number) -> Quotient
+    ensures { outcome result ≡ number_quotient mode (datum y) (datum x) }
 {
-    match *y {
-        Number::Finite(y) => divide_finite_by(source, mode, y, x),
-        Number::Infinite(sign) => divide_infinity_by(sign, x),
-        Number::QuietNan(nan) => divide_nan_by(nan, x),
-        Number::SignallingNan(_) => no_number(raised_invalid()),
+    match (y, x) {
+        (Number::SignallingNan(_), _) | (_, Number::SignallingNan(_)) => no_number(
+            raised_invalid(),
+        ),
+        (Number::QuietNan(_), _) | (_, Number::QuietNan(_)) => no_number(Flags::none()),
+        (Number::Infinite(_), Number::Infinite(_)) => no_number(raised_invalid()),
+        (Number::Infinite(sign), Number::Finite(x)) => {
+            exact(Number::Infinite(multiply_signs(sign, x.sign)))
+        }
+        (Number::Finite(y), Number::Infinite(sign)) => vanishing(multiply_signs(y.sign, sign)),
+        (Number::Finite(y), Number::Finite(x)) => divide_finite(source, mode, y, x),
     }
 }
 
@@ -151,17 +110,9 @@ pub fn divide_words<S: Source>(
 ) -> Result<QuotientWord, Fault>
     ensures { result ≡ word_division (S.Source.claim source.now) mode dividend divisor }
 {
-    if source.claimed() < 9 {
-        return Err(Fault {
-            refusal: Refusal::ClaimUnderNine,
-            place: 0,
-        });
-    }
-    let quotient = divide_numbers(source, mode, &read_word(dividend), &read_word(divisor));
-    Ok(QuotientWord {
-        word: write_word(&quotient.number),
-        flags: quotient.flags,
-    })
+    let source = NineDigits::of(source)?;
+    let quotient = divide_numbers(&source, mode, read_word(dividend), read_word(divisor));
+    Ok(quotient.into())
 }
 
 /// Divides two words by each of two sources, and tells whether word and flags are the same. Where both sources claim nine, they always are:
@@ -177,5 +128,5 @@ pub fn sources_agree<S: Source, T: Source>(
 {
     let one = divide_words(first, mode, dividend, divisor)?;
     let other = divide_words(second, mode, dividend, divisor)?;
-    Ok(one.word == other.word && one.flags.number() == other.flags.number())
+    Ok(one == other)
 }

@@ -5,6 +5,8 @@ mod begin;
 mod divide;
 mod draft;
 mod finish;
+mod nine;
+mod normal;
 mod outcome;
 mod steps;
 mod strike;

@@ -1,7 +1,8 @@
 // A quotient counted in steps.
-ghost use Rattle.std.specs.Prelude.{◌≡◌, ℕ, ◌<◌, IfSome};
+ghost use Rattle.std.specs.Prelude.{◌≡◌, ℕ};
+ghost use Rattle.std.specs.Option.{option_map};
 ghost use Rattle.quotient.specs.Quotients.{decimal32};
-ghost use Rattle.quotient.specs.Splits.{split_at};
+ghost use Rattle.quotient.specs.Splits.{between, split_at};
 ghost use Rattle.divider.specs.Drafts.{StandsFor, held};
 
 use crate::draft::Draft;
@@ -13,8 +14,8 @@ impl Draft {
     /// nothing where that is 10,000,000 steps or more. Whatever fraction n / d the draft stands for, in units of the least exponent,
     /// the answer is the definition's at n / d.
     pub fn in_steps(mut self, step: u16) -> (Sign, Option<Split>)
-        ensures value { (n d : ℕ) → StandsFor (held self) n d → result ≡ ((held self).sign, split_at decimal32 step n d) }
-        ensures small { IfSome result.1 (λ p. p.floor < 10000000) }
+        ensures sign { result.0 ≡ (held self).sign }
+        ensures steps { (n d : ℕ) → StandsFor (held self) n d → option_map between result.1 ≡ split_at decimal32 step n d }
     {
         self.finished = true;
         (self.sign, self.leading().split_at(step))

@@ -2,11 +2,8 @@
 -- Assumes nothing.
 use Rattle.std.proofs.Common.{◌≡◌, ℕ, ◌*◌, ◌^◌, ◌<◌, ◌≤◌, sym, subst, arith}
 use Rattle.divider.specs.Drafts.{widening}
-use Rattle.divider.proofs.Bracket.{Brackets, brackets, draft_fits, wide_least, wide_most}
+use Rattle.divider.proofs.Bracket.{Brackets, brackets, wide_least, wide_most}
 use Rattle.divider.proofs.begin.assemble.Goals as goal
-
-pub bias-requires : goal.bias-requires
-bias-requires c = draft_fits _ _ _ c.requires.divisor.0 c.requires.dividend.1 c.requires.near
 
 -- what holds of the widened dividend holds of the code's
 carried : (P : ℕ → Type 0) (w v : ℕ) → v ≡ w → P w → P v
@@ -16,19 +13,17 @@ pub invariant_of-result : goal.invariant_of-result
 invariant_of-result c =
     let Y : ℕ = c.args.y.digits in
     let D : ℕ = c.args.x.digits in
-    let b : Brackets c.widen.result D c.bias.result =
-    carried (λ w. Brackets w D c.bias.result) _ _ c.widen.ensures (carried (λ q. Brackets (Y * 10 ^ widening Y D) D q) _ _ c.bias.ensures (brackets D Y c.args.reciprocal c.requires.near c.requires.dividend.1))
+    let w = c.widen-widened in
+    let lo : 1000000 ≤ D = c.args.x.least c.requires.nonzero in
+    let b : Brackets w.result.dividend D w.result.biased =
+    carried (λ a. Brackets a D w.result.biased) _ _ w.ensures.dividend (carried (λ q. Brackets (Y * 10 ^ widening Y D) D q) _ _ w.ensures.biased (brackets D Y c.args.reciprocal c.requires.near c.args.y.most))
     in
-    let least : 0 < c.widen.result → 10000000 * D ≤ c.widen.result =
-    carried (λ w. 0 < w → 10000000 * D ≤ w) _ _ c.widen.ensures (wide_least Y D c.requires.dividend.0 c.requires.divisor.0 c.requires.divisor.1)
-    in
-    let most : c.widen.result ≤ 99999990 * D = carried (λ w. w ≤ 99999990 * D) _ _ c.widen.ensures (wide_most Y D c.requires.dividend.1 c.requires.divisor.0 c.requires.divisor.1) in
     record {
       some = b.some;
       under = b.under;
       over = b.over;
-      seven = (c.requires.divisor.0, c.requires.divisor.1);
-      least = least;
-      most = most;
-      far = omega (arith, c.saturating_sub.ensures, c.zeros_widening.ensures.few);
+      seven = (lo, c.args.x.most);
+      least = carried (λ a. 0 < a → 10000000 * D ≤ a) _ _ w.ensures.dividend (wide_least Y D c.args.y.least lo c.args.x.most);
+      most = carried (λ a. a ≤ 99999990 * D) _ _ w.ensures.dividend (wide_most Y D c.args.y.most lo c.args.x.most);
+      far = omega (arith, c.saturating_sub.ensures, w.ensures.few);
     }
