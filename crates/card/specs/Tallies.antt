@@ -12,8 +12,7 @@ use Rattle.rounding.specs.Flags.{no_flags, raised_by_either}
 use Rattle.rounding.specs.Modes.{signed}
 use Rattle.rounding.specs.Rounding.{rounded_at, is_whole}
 use Rattle.quotient.specs.Quotients.{decimal32, inexact_flags}
-use Rattle.quotient.specs.declared.types.Split.{Split}
-use Rattle.quotient.specs.Splits.{split_at}
+use Rattle.quotient.specs.Splits.{Between, split_at}
 use Rattle.divider.specs.declared.outcome.QuotientWord.{QuotientWord}
 use Rattle.card.specs.declared.card.Card.{Card}
 
@@ -32,16 +31,19 @@ abbrev pub tally : Card → Tally
 tally c =
     record { step = c.step; low = c.low; figure = c.figure; high = c.high; posted = c.posted; near = c.near; far = c.far; flags = c.flags }
 
+-- totals and counts at zero
+abbrev pub nothing_posted : ℕ → Flags → Tally
+nothing_posted s f = record { step = s; low = pos 0; figure = pos 0; high = pos 0; posted = 0; near = 0; far = 0; flags = f }
+
 -- a new card of step s
 abbrev pub opened : ℕ → Tally
-opened s = record { step = s; low = pos 0; figure = pos 0; high = pos 0; posted = 0; near = 0; far = 0; flags = no_flags }
+opened s = nothing_posted s no_flags
 
 abbrev pub open_card : ℕ → Result Tally Fault
 open_card s = cond (nat_lt 4 s) (Err (at_no_place UnknownStep)) (Ok (opened s))
 
--- totals and counts at zero
 abbrev pub cleared : Tally → Tally
-cleared t = record { step = t.step; low = pos 0; figure = pos 0; high = pos 0; posted = 0; near = 0; far = 0; flags = t.flags }
+cleared t = nothing_posted t.step t.flags
 
 abbrev pub lowered : Tally → Tally
 lowered t =
@@ -71,14 +73,14 @@ is_near TowardZero = false
 is_near AwayFromZero = false
 
 -- a quotient between two whole numbers of steps, under its sign, in whole steps by the mode
-abbrev pub whole_steps_of : Mode → Sign → Split → ℤ
+abbrev pub whole_steps_of : Mode → Sign → Between → ℤ
 whole_steps_of mode s p = signed s (rounded_at mode s p.floor p.position)
 
-abbrev pub is_exact : Split → Bool
+abbrev pub is_exact : Between → Bool
 is_exact p = is_whole p.position
 
 -- one posting more
-abbrev pub added : Mode → Sign → Split → Tally → Tally
+abbrev pub added : Mode → Sign → Between → Tally → Tally
 added mode s p t =
     record {
       step = t.step;
@@ -100,7 +102,7 @@ abbrev pub refused : {X : Type 0} → Refusal → Tally → After X
 refused r t = record { answer = Err (at_no_place r); card = t }
 
 -- a quotient of 10^7 steps or more is refused
-abbrev pub posted_steps : Mode → Sign → Option Split → Tally → After (Unit {0})
+abbrev pub posted_steps : Mode → Sign → Option Between → Tally → After (Unit {0})
 posted_steps mode s None t = refused QuotientTooLarge t
 posted_steps mode s (Some p) t = record { answer = Ok tt; card = added mode s p t }
 

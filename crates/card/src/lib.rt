@@ -5,6 +5,7 @@ mod card;
 mod open;
 mod posting;
 mod setting;
+mod steps;
 
 pub use card::Card;
 pub use setting::Setting;

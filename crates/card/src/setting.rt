@@ -19,7 +19,7 @@ impl Setting {
         ensures { result.mode ≡ NearestEven }
     {
         Setting {
-            mode: Mode::NearestEven,
+            mode: Mode::default(),
         }
     }
 
@@ -28,12 +28,7 @@ impl Setting {
         ensures answer { result ≡ result_map_both (λ _. tt) (λ f. f) (mode_numbered number) }
         ensures mode { self.new.mode ≡ result_unwrap_or (mode_numbered number) self.old.mode }
     {
-        match Mode::numbered(number) {
-            Ok(mode) => {
-                self.mode = mode;
-                Ok(())
-            }
-            Err(fault) => Err(fault),
-        }
+        self.mode = Mode::try_from(number)?;
+        Ok(())
     }
 }
