@@ -1,8 +1,8 @@
 -- A table by the first digits of a divisor approximates, at every divisor of seven digits.
 -- Assumes nothing.
-use Rattle.std.specs.Prelude.{◌≡◌, ℕ, ◌+◌, ◌-◌, ◌*◌, ◌/◌, ◌%◌, ◌^◌, ◌<◌, ◌≤◌, refl}
+use Rattle.std.specs.Prelude.{◌≡◌, ℕ, zero, suc, ◌+◌, ◌-◌, ◌*◌, ◌/◌, ◌%◌, ◌^◌, ◌<◌, ◌≤◌, refl}
 use Rattle.std.proofs.Common.{ap, ⊎_elim, arith, mul-le-mul, mul-le-mul_left, mul-le-mul_right, div-mul-le_self}
-use Rattle.std.proofs.Math.Nat.{le_of_mul-le-mul_left, lt_of_mul-lt-mul_left, lt-div-mul-add}
+use Rattle.std.proofs.Math.Nat.{le_of_mul-le-mul_left, lt_of_mul-lt-mul_left, lt-div-mul-add, div-le_self}
 use Rattle.std.proofs.lemmas.Bool.{cases_lt}
 use Rattle.reciprocal.specs.Sources.{Approximates, entry, factor, table_reciprocal}
 
@@ -103,20 +103,41 @@ close {B} {Q} {M} {a = a} {c = c} {r} {X} {D} p =
 
 -- what the powers are at a count k of digits, and how they part a divisor
 pub record Parted (k D : ℕ) : Type 0 where
-  pub scale : 10 ^ k * 10 ^ k * 10 ^ (7 - 2 * k) ≡ 10000000
-  pub fourth : 10 ^ (4 * k) ≡ 10 ^ k * 10 ^ k * (10 ^ k * 10 ^ k)
-  pub second : 10 ^ (2 * k) ≡ 10 ^ k * 10 ^ k
-  pub whole : 10 ^ (2 * k - 3 + 8) ≡ 100000 * (10 ^ k * 10 ^ k)
-  pub wide : 100 ≤ 10 ^ k
-  pub narrow : 10 ^ k ≤ 1000
-  pub least : 10 ^ k ≤ 10 * (D / 10 ^ (7 - k))
+  pub room : 10 ^ (4 * k) * 10 ^ (2 * k) ≤ 10 ^ 18
+  scale : 10 ^ k * 10 ^ k * 10 ^ (7 - 2 * k) ≡ 10000000
+  fourth : 10 ^ (4 * k) ≡ 10 ^ k * 10 ^ k * (10 ^ k * 10 ^ k)
+  second : 10 ^ (2 * k) ≡ 10 ^ k * 10 ^ k
+  whole : 10 ^ (2 * k - 3 + 8) ≡ 100000 * (10 ^ k * 10 ^ k)
+  wide : 100 ≤ 10 ^ k
+  narrow : 10 ^ k ≤ 1000
+  ten : 10 ^ k ≡ 10 * 10 ^ (k - 1)
+  pub least : 10 ^ (k - 1) ≤ D / 10 ^ (7 - k)
   pub most : D / 10 ^ (7 - k) < 10 ^ k
   pub next : D % 10 ^ (7 - k) / 10 ^ (7 - 2 * k) < 10 ^ k
-  pub last : D % 10 ^ (7 - 2 * k) < 10 ^ (7 - 2 * k)
-  pub d_is : D ≡ 10 ^ k * 10 ^ (7 - 2 * k) * (D / 10 ^ (7 - k)) + 10 ^ (7 - 2 * k) * (D % 10 ^ (7 - k) / 10 ^ (7 - 2 * k)) + D % 10 ^ (7 - 2 * k)
+  last : D % 10 ^ (7 - 2 * k) < 10 ^ (7 - 2 * k)
+  d_is : D ≡ 10 ^ k * 10 ^ (7 - 2 * k) * (D / 10 ^ (7 - k)) + 10 ^ (7 - 2 * k) * (D % 10 ^ (7 - k) / 10 ^ (7 - 2 * k)) + D % 10 ^ (7 - 2 * k)
 
-pub approximates : (k D : ℕ) → Parted k D → Approximates (2 * k - 3) D (table_reciprocal k D)
-approximates k D q =
+-- the two counts of digits
+by_width : (Q : ℕ → Type 0) → Q 2 → Q 3 → (k : ℕ) → (2 ≤ k) × (k ≤ 3) → Q k
+by_width Q a b zero w = absurd (omega (arith, w))
+by_width Q a b (suc zero) w = absurd (omega (arith, w))
+by_width Q a b (suc (suc zero)) w = a
+by_width Q a b (suc (suc (suc zero))) w = b
+by_width Q a b (suc (suc (suc (suc k)))) w = absurd (omega (arith, w))
+
+pub parted : (k D : ℕ) → (2 ≤ k) × (k ≤ 3) → 1000000 ≤ D → D < 10000000 → Parted k D
+parted k D w lo hi = by_width (λ k. Parted k D) (omega arith) (omega arith) k w
+
+-- the product of entry and factor fits a word
+pub room : (k D : ℕ) → Parted k D → entry k (D / 10 ^ (7 - k)) * factor k D ≤ 10 ^ 18
+room k D q =
+    let M : ℕ = D / 10 ^ (7 - k) in
+    let f : factor k D ≤ 10 ^ (2 * k) = omega (arith, q.second, mul-le-mul_left (10 ^ k) q.most) in
+    omega (arith, q.room, mul-le-mul (div-le_self (10 ^ (4 * k)) ((10 * M + 5) * (10 * M + 5))) f)
+
+pub approximates : (k D : ℕ) → (2 ≤ k) × (k ≤ 3) → 1000000 ≤ D → D < 10000000 → Approximates (2 * k - 3) D (table_reciprocal k D)
+approximates k D w lo hi =
+    let q = parted k D w lo hi in
     let B : ℕ = 10 ^ k in
     let M : ℕ = D / 10 ^ (7 - k) in
     let u : ℕ = D % 10 ^ (7 - k) / 10 ^ (7 - 2 * k) in
@@ -131,7 +152,7 @@ approximates k D q =
       scale = q.scale;
       wide = q.wide;
       narrow = q.narrow;
-      least = q.least;
+      least = omega (arith, q.least, q.ten);
       most = q.most;
       rest = omega (arith, q.next);
       last = q.last;

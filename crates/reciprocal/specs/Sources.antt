@@ -1,5 +1,6 @@
 -- What a source of reciprocals answers, and the reciprocals of the tables and of short division. Assumes nothing.
-use Rattle.std.specs.Prelude.{ℕ, ◌+◌, ◌-◌, ◌*◌, ◌/◌, ◌%◌, ◌^◌, ◌<◌, min, max, Bool, cond, ◌&&◌, Ok, Err, Result, nat_le}
+use Rattle.std.specs.Prelude.{ℕ, ◌+◌, ◌-◌, ◌*◌, ◌/◌, ◌%◌, ◌^◌, ◌<◌, min, max, Bool, cond, ◌&&◌, Ok, Err, Result, nat_le, List, map}
+use Rattle.std.specs.List.{range_with_len}
 use Rattle.refusals.specs.declared.Fault.{Fault}
 use Rattle.refusals.specs.declared.Refusal.TheVariants.{DivisorNotSevenDigits}
 use Rattle.refusals.specs.Refusals.{at_no_place}
@@ -20,6 +21,10 @@ asked r d = cond (seven_digits d) (Ok (r d)) (Err (at_no_place DivisorNotSevenDi
 -- the entry of a table by k digits, for the divisors that begin with the digits M
 abbrev pub entry : ℕ → ℕ → ℕ
 entry k M = 10 ^ (4 * k) / ((10 * M + 5) * (10 * M + 5))
+
+-- the entries of a table by k digits, in order
+abbrev pub entries : ℕ → List ℕ
+entries k = map (entry k) (range_with_len (10 ^ (k - 1)) (10 ^ k - 10 ^ (k - 1)))
 
 -- the entry's factor: the first k digits of D, and behind them the next k, each taken from nine
 abbrev pub factor : ℕ → ℕ → ℕ

@@ -9,8 +9,8 @@ mod table;
 mod tables;
 mod worked;
 
-pub use newton::Newton;
+pub use newton::{Newton, TWO_LAYERS};
 pub use short::ShortDivision;
 pub use source::Source;
-pub use table::{ThreeDigitTable, TwoDigitTable};
+pub use table::{DigitTable, ThreeDigitTable, TwoDigitTable};
 pub use worked::worked_reciprocals;

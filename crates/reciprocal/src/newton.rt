@@ -7,13 +7,15 @@ ghost use Rattle.std.proofs.Common.{rules};
 
 use crate::powers::power_of_ten;
 use crate::source::Source;
+use crate::table::ThreeDigitTable;
 use refusals::Fault;
 
 /// A layer of Newton's step. It claims twice the digits of the source below, and at most nine.
 #[derive(Clone, Copy)]
-pub struct Newton<S> {
-    pub lower: S,
-}
+pub struct Newton<S>(pub S);
+
+/// Two layers over the three-digit table, which claim nine digits.
+pub const TWO_LAYERS: Newton<Newton<ThreeDigitTable>> = Newton(Newton(ThreeDigitTable));
 
 // The step from an answer with a claim of at most six.
 fn refine(claim: u32, divisor: u64, answer: u64) -> u64
@@ -32,21 +34,21 @@ fn refine(claim: u32, divisor: u64, answer: u64) -> u64
 }
 
 impl<S: Source> Source for Newton<S> {
-    ghost claim = { λ s. finer (S.Source.claim s.lower) };
+    ghost claim = { λ s. finer (S.Source.claim s.0) };
 
-    ghost reciprocal = { λ s d. layered (S.Source.claim s.lower) d (S.Source.reciprocal s.lower d) };
+    ghost reciprocal = { λ s d. layered (S.Source.claim s.0) d (S.Source.reciprocal s.0 d) };
 
     ghost claims = { Prim.search rules };
 
-    ghost approximates = { λ s d lo hi. Steps.approximates _ d _ (S.Source.claims s.lower).0 lo hi (S.Source.approximates s.lower d lo hi) };
+    ghost approximates = { λ s d lo hi. Steps.approximates _ d _ (S.Source.claims s.0).0 lo hi (S.Source.approximates s.0 d lo hi) };
 
     fn claimed(&self) -> u32 {
-        (2 * self.lower.claimed()).min(9)
+        (2 * self.0.claimed()).min(9)
     }
 
     fn ask(&self, divisor: u32) -> Result<u64, Fault> {
-        let answer = self.lower.ask(divisor)?;
-        let claim = self.lower.claimed();
+        let answer = self.0.ask(divisor)?;
+        let claim = self.0.claimed();
         let cut = answer / power_of_ten(claim.saturating_sub(6));
         Ok(refine(claim.min(6), divisor as u64, cut))
     }

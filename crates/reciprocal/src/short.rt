@@ -21,7 +21,7 @@ impl ShortDivision {
         ensures { result.claim ≡ lawful_claim claim }
     {
         ShortDivision {
-            claim: claim.min(9).max(1),
+            claim: claim.clamp(1, 9),
         }
     }
 }

@@ -29,10 +29,7 @@ pub(crate) fn seven_digits(divisor: u32) -> Result<u64, Fault>
     ensures { result ≡ asked (λ d. d) divisor }
 {
     if divisor < 1_000_000 || divisor > 9_999_999 {
-        return Err(Fault {
-            refusal: Refusal::DivisorNotSevenDigits,
-            place: 0,
-        });
+        return Err(Refusal::DivisorNotSevenDigits.into());
     }
     Ok(divisor as u64)
 }

@@ -1,73 +1,85 @@
 // Reciprocals from a table by the first digits of the divisor.
-ghost use Rattle.std.specs.Prelude.{◌≡◌, ◌<◌, ◌≤◌};
-ghost use Rattle.reciprocal.specs.Sources.{entry, table_reciprocal};
+ghost use Rattle.std.specs.Prelude.{◌≡◌, ℕ, ◌<◌, ◌≤◌, ◌-◌, ◌*◌, ◌^◌};
+ghost use Rattle.reciprocal.specs.Sources.{entry, entries, table_reciprocal};
 ghost use Rattle.std.proofs.Common.{arith, rules};
 ghost use Rattle.reciprocal.specs.Leading;
 
+use crate::powers::power_of_ten;
 use crate::source::{Source, seven_digits};
 use crate::tables::{THREE_DIGIT_ENTRIES, TWO_DIGIT_ENTRIES};
 use refusals::Fault;
 
-// The entry for the divisors that begin with these three digits.
-fn three_digit_entry(first: u64) -> u64
-    requires { (100 ≤ first) × (first < 1000) }
-    ensures { result ≡ entry 3 first }
+/// A table by the first two or three digits of the divisor, with an entry for each number that they can be.
+pub trait DigitTable {
+    const DIGITS: u32;
+
+    ghost DIGITS: { ℕ };
+
+    fn entries() -> &'static [u32]
+        ensures { result.now ≡ entries DIGITS };
+
+    ghost width: { (2 ≤ DIGITS) × (DIGITS ≤ 3) };
+}
+
+// The entry for the divisors that begin with these digits.
+fn entry_of<T: DigitTable>(first: u64) -> u64
+    requires { (10 ^ (T.DIGITS - 1) ≤ first) × (first < 10 ^ T.DIGITS) }
+    ensures { result ≡ entry T.DIGITS first }
 {
-    THREE_DIGIT_ENTRIES[(first - 100) as usize] as u64
+    T::entries()[(first - power_of_ten(T::DIGITS - 1)) as usize] as u64
+}
+
+impl<T: DigitTable> Source for T {
+    ghost claim = { λ s. 2 * T.DIGITS - 3 };
+
+    ghost reciprocal = { λ s d. table_reciprocal T.DIGITS d };
+
+    ghost claims = { omega (arith, T.width) };
+
+    ghost approximates = { λ s d lo hi. Leading.approximates T.DIGITS d T.width lo hi };
+
+    fn claimed(&self) -> u32 {
+        2 * T::DIGITS - 3
+    }
+
+    fn ask(&self, divisor: u32) -> Result<u64, Fault> {
+        let divisor = seven_digits(divisor)?;
+        let first = divisor / power_of_ten(7 - T::DIGITS);
+        let next = divisor % power_of_ten(7 - T::DIGITS) / power_of_ten(7 - 2 * T::DIGITS);
+        let scale = power_of_ten(T::DIGITS);
+        let factor = scale * first + (scale - 1) - next;
+        Ok(entry_of::<T>(first) * factor / power_of_ten(2 * T::DIGITS))
+    }
 }
 
 /// The table by the first three digits. It claims three digits.
 #[derive(Clone, Copy)]
 pub struct ThreeDigitTable;
 
-impl Source for ThreeDigitTable {
-    ghost claim = { λ s. 3 };
+impl DigitTable for ThreeDigitTable {
+    const DIGITS: u32 = 3;
 
-    ghost reciprocal = { λ s d. table_reciprocal 3 d };
+    ghost DIGITS = { 3 };
 
-    ghost claims = { Prim.search rules };
+    ghost width = { Prim.search rules };
 
-    ghost approximates = { λ s d lo hi. Leading.approximates 3 d (omega arith) };
-
-    fn claimed(&self) -> u32 {
-        3
+    fn entries() -> &'static [u32] {
+        &THREE_DIGIT_ENTRIES
     }
-
-    fn ask(&self, divisor: u32) -> Result<u64, Fault> {
-        let divisor = seven_digits(divisor)?;
-        let first = divisor / 10_000;
-        Ok(three_digit_entry(first) * (1000 * first + 999 - divisor % 10_000 / 10) / 1_000_000)
-    }
-}
-
-// The entry for the divisors that begin with these two digits.
-fn two_digit_entry(first: u64) -> u64
-    requires { (10 ≤ first) × (first < 100) }
-    ensures { result ≡ entry 2 first }
-{
-    TWO_DIGIT_ENTRIES[(first - 10) as usize] as u64
 }
 
 /// The table by the first two digits. It claims one digit.
 #[derive(Clone, Copy)]
 pub struct TwoDigitTable;
 
-impl Source for TwoDigitTable {
-    ghost claim = { λ s. 1 };
+impl DigitTable for TwoDigitTable {
+    const DIGITS: u32 = 2;
 
-    ghost reciprocal = { λ s d. table_reciprocal 2 d };
+    ghost DIGITS = { 2 };
 
-    ghost claims = { Prim.search rules };
+    ghost width = { Prim.search rules };
 
-    ghost approximates = { λ s d lo hi. Leading.approximates 2 d (omega arith) };
-
-    fn claimed(&self) -> u32 {
-        1
-    }
-
-    fn ask(&self, divisor: u32) -> Result<u64, Fault> {
-        let divisor = seven_digits(divisor)?;
-        let first = divisor / 100_000;
-        Ok(two_digit_entry(first) * (100 * first + 99 - divisor % 100_000 / 1000) / 10_000)
+    fn entries() -> &'static [u32] {
+        &TWO_DIGIT_ENTRIES
     }
 }

@@ -2,7 +2,7 @@
 ghost use Rattle.std.specs.Prelude.{◌≡◌, Ok};
 ghost use Rattle.reciprocal.specs.Worked.{WorkedReciprocals, worked_numbers};
 
-use crate::newton::Newton;
+use crate::newton::{Newton, TWO_LAYERS};
 use crate::source::Source;
 use crate::table::ThreeDigitTable;
 use refusals::Fault;
@@ -13,12 +13,11 @@ pub fn worked_reciprocals() -> Result<[u64; 3], Fault>
     ensures defined { WorkedReciprocals }
 {
     let table = ThreeDigitTable;
-    let layer = Newton { lower: table };
-    let layers = Newton { lower: layer };
+    let layer = Newton(table);
     let divisor = 3_000_000;
     Ok([
         table.ask(divisor)?,
         layer.ask(divisor)?,
-        layers.ask(divisor)?,
+        TWO_LAYERS.ask(divisor)?,
     ])
 }

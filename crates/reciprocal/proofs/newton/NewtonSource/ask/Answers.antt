@@ -7,7 +7,7 @@ use Rattle.reciprocal.proofs.newton.NewtonSource.ask.Goals as goal
 
 pub refine-requires : goal.refine-requires
 refine-requires g c =
-    let s = c.args.self.now.lower in
+    let s = c.args.self.now.0 in
     let d : ℕ = c.args.divisor in
     let t = told (g.S.Source.reciprocal s) d c.in_ok-answer.answer (sym c.ask.ensures ∙ c.in_ok-answer.was) in
     let near = cuts _ d _ (g.met.S.Source.approximates s d t.least t.most) in
