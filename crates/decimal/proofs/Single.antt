@@ -1,20 +1,12 @@
 -- decimal32 as an instance of the laws of any format. Assumes nothing.
-use Rattle.std.proofs.Common.{◌≡◌, ℕ, ◌+◌, ◌*◌, ◌/◌, ◌%◌, ◌^◌, ◌<◌, true, ap, ◌∙◌, arith}
+use Rattle.std.proofs.Common.{◌≡◌, ℕ, ◌^◌, ◌<◌, true, ap, ◌∙◌, arith}
 use Rattle.std.proofs.lemmas.Int.{ints}
 use Rattle.decimal.specs.declared.number.Number.{Number}
 use Rattle.decimal.specs.declared.number.Number.TheVariants.{Finite, Infinite, QuietNan, SignallingNan}
-use Rattle.decimal.specs.Declets.{declet_value}
 use Rattle.decimal.specs.Numbers.{datum}
-use Rattle.decimal.specs.Words.{decimal32, InFormat, declets_value, number_of, word_of, canonical}
+use Rattle.decimal.specs.Words.{decimal32, InFormat, number_of, word_of, canonical}
 use Rattle.decimal.proofs.Trip.{round_trip}
 use Rattle.decimal.proofs.Canonical.{written_canonical, canonical_same}
-
--- the six digits, declet by declet
-pub digits_are : (w a b : ℕ) → a ≡ declet_value (w / 1024 % 1024) → b ≡ declet_value (w % 1024) → a * 1000 + b ≡ declets_value 2 (w % 1048576)
-digits_are w a b p q =
-    let m : w / 1024 % 1024 ≡ w % 1048576 / 1024 % 1024 = omega arith in
-    let n : w % 1024 ≡ w % 1048576 % 1024 = omega arith in
-    omega (arith, ap declet_value m, ap declet_value n)
 
 -- a number of the program is one of the format
 in_format : (n : Number) → InFormat decimal32 (datum n)

@@ -1,8 +1,7 @@
 -- The biased quotient that a reciprocal at claim nine gives is the quotient or one more.
 -- Assumes nothing.
-use Rattle.std.proofs.Common.{◌≡◌, ℕ, zero, suc, ◌+◌, ◌-◌, ◌*◌, ◌/◌, ◌%◌, ◌^◌, ◌<◌, ◌≤◌, cond, ltb, sym, refl, mul-le-mul_right, lt_of_mul-lt-mul_right, mul-le-mul_left, div-add-mod', le-div_iff_mul-le, sub-add_cancel, div-mul-le_self, arith}
-use native.Mathlib.Nat.{le_of_mul-le-mul_left, lt_of_mul-lt-mul_left, div-eq_of_lt-le, lt-div-mul-add}
-use Rattle.std.proofs.lemmas.Bool.Decides.{nat_tests}
+use Rattle.std.proofs.Common.{◌≡◌, ℕ, ◌+◌, ◌-◌, ◌*◌, ◌/◌, ◌^◌, ◌<◌, ◌≤◌, ltb, refl, mul-le-mul_right, mul-le-mul_left, div-mul-le_self, arith}
+use native.Mathlib.Nat.{le_of_mul-le-mul_left, lt_of_mul-lt-mul_left, lt-div-mul-add}
 use Rattle.std.proofs.lemmas.Bool.{cond_both, ltb-true, ltb-false}
 use Rattle.reciprocal.specs.Sources.{Approximates}
 use Rattle.divider.specs.Drafts.{widening}
@@ -24,11 +23,6 @@ high P T D Y r q d y h k =
     let m : (2 * P) * (Y * T) < (2 * P) * ((q + 2) * D) = omega (arith, mul-le-mul_right D h, mul-le-mul_left Y k, mul-le-mul_right D y) in
     lt_of_mul-lt-mul_left (2 * P) m
 
--- the lower end as a product with one less
-pub less : (A D B : ℕ) → B * D ≤ A + D → (B - 1) * D ≤ A
-less A D zero h = omega arith
-less A D (suc b) h = let e : suc b - 1 ≡ b = omega arith in rw e (omega arith)
-
 -- both drafts: the scale 10^17 is P * T
 draft : (P T D Y r : ℕ) → 0 < P → P * T ≡ 100000000000000000 → 11 * Y ≤ 2 * P → Approximates 9 D r → Brackets (Y * T) D (1 + Y * r / P)
 draft P T D Y r p e y k =
@@ -39,27 +33,11 @@ draft P T D Y r p e y k =
     let hi : Y * T < (q + 2) * D = high P T D Y r q (omega (arith, k.near)) y (lt-div-mul-add p) n in
     record { some = omega arith; under = omega (arith, lo); over = omega (arith, hi) }
 
-pub below_one : (D Y r : ℕ) → Approximates 9 D r → Y < 10000000 → Brackets (Y * 10 ^ 8) D (1 + Y * r / 10 ^ 9)
+below_one : (D Y r : ℕ) → Approximates 9 D r → Y < 10000000 → Brackets (Y * 10 ^ 8) D (1 + Y * r / 10 ^ 9)
 below_one D Y r k y = draft (10 ^ 9) (10 ^ 8) D Y r (omega arith) refl (omega arith) k
 
-pub from_one : (D Y r : ℕ) → Approximates 9 D r → Y < 10000000 → Brackets (Y * 10 ^ 7) D (1 + Y * r / 10 ^ 10)
+from_one : (D Y r : ℕ) → Approximates 9 D r → Y < 10000000 → Brackets (Y * 10 ^ 7) D (1 + Y * r / 10 ^ 10)
 from_one D Y r k y = draft (10 ^ 10) (10 ^ 7) D Y r (omega arith) refl (omega arith) k
-
--- the quotient by its bounds
-pub quotient : (A D q : ℕ) → q * D ≤ A → A < (q + 1) * D → q ≡ A / D
-quotient A D q h k = sym (div-eq_of_lt-le D h k)
-
-pub one_less : (A D B : ℕ) → Brackets A D B → A < B * D → B - 1 ≡ A / D
-one_less A D B b h = quotient A D (B - 1) (less A D B b.under) (rw (sub-add_cancel b.some) h)
-
-pub same : (A D B : ℕ) → Brackets A D B → B * D ≤ A → B ≡ A / D
-same A D B b h = quotient A D B h (omega (arith, b.over))
-
--- the draft fits a word, and so does its product with the divisor
-pub draft_fits : (D Y r : ℕ) → 1000000 ≤ D → Y < 10000000 → Approximates 9 D r → Y * r < 10 ^ 18
-draft_fits D Y r d y k =
-    let m : Y ≤ 10000000 = omega arith in
-    omega (arith, mul-le-mul_left r d, mul-le-mul_right r m, k.below)
 
 -- by eight zeros or by seven
 pub brackets : (D Y r : ℕ) → Approximates 9 D r → Y < 10000000 → Brackets (Y * 10 ^ widening Y D) D (1 + Y * r / 10 ^ (17 - widening Y D))
@@ -76,25 +54,3 @@ wide_least Y D y lo hi =
 pub wide_most : (Y D : ℕ) → Y < 10000000 → 1000000 ≤ D → D < 10000000 → Y * 10 ^ widening Y D ≤ 99999990 * D
 wide_most Y D y lo hi =
     cond_both (ltb Y D) 8 7 (λ w. Y * 10 ^ w ≤ 99999990 * D) (λ e. omega (arith, ltb-true Y D e)) (λ e. omega arith)
-
--- something is left just where the quotient times the divisor is less
-pub left_is : (A D q : ℕ) → q ≡ A / D → ltb (q * D) A ≡ ltb 0 (A % D)
-left_is A D q e = let m : q * D + A % D ≡ A = rw e (div-add-mod' A D) in grind (arith, nat_tests)
-
-pub quotient_fits : (A D q : ℕ) → q ≡ A / D → q * D ≤ A
-quotient_fits A D q e = rw e (div-mul-le_self A D)
-
--- eight digits or none, and room for a fraction
-pub digits_least : (A D q : ℕ) → 0 < D → (0 < A → 10000000 * D ≤ A) → q ≡ A / D → 0 < q → 10000000 ≤ q
-digits_least A D q d h e p =
-    let m : q * D ≤ A = quotient_fits A D q e in
-    let k : 1 * D ≤ q * D = mul-le-mul_right D p in
-    let l : 10000000 * D ≤ A = h (omega arith) in
-    rw e ((le-div_iff_mul-le d).1 l)
-
-pub digits_most : (A D q : ℕ) → 0 < D → A ≤ 99999990 * D → q ≡ A / D → q + cond (ltb 0 (A % D)) 1 0 + 10 ≤ 100000000
-digits_most A D q d h e =
-    let m : q * D + A % D ≡ A = rw e (div-add-mod' A D) in
-    cond_both (ltb 0 (A % D)) 1 0 (λ x. q + x + 10 ≤ 100000000)
-    (λ t. let l : q * D < 99999990 * D = omega (arith, ltb-true 0 (A % D) t) in omega (arith, lt_of_mul-lt-mul_right D l))
-    (λ t. let l : q * D < 99999991 * D = omega arith in omega (arith, lt_of_mul-lt-mul_right D l))

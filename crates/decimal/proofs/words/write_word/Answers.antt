@@ -3,7 +3,8 @@
 use Rattle.decimal.proofs.Single.{same_number, is_canonical}
 use Rattle.decimal.proofs.words.write_word.Goals as goal
 
-pub returns : goal.returns
-returns c =
-    let e = c.word.ensures in
-    record { word = e; same_number = same_number c.args.number.now _ e; canonical = is_canonical c.args.number.now _ e }
+pub returns-clause-same_number : goal.returns-clause-same_number
+returns-clause-same_number c = same_number c.args.number.now _ c.word.ensures
+
+pub returns-clause-canonical : goal.returns-clause-canonical
+returns-clause-canonical c = is_canonical c.args.number.now _ c.word.ensures

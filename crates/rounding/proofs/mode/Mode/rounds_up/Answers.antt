@@ -3,7 +3,5 @@
 use Rattle.rounding.proofs.Chosen.{rounds_so}
 use Rattle.rounding.proofs.mode.Mode.rounds_up.Goals as goal
 
-pub returns : goal.returns
-returns c =
-    let e = c.goes_up_to_next.ensures in
-    record { value = e; only = rounds_so c.args.self c.args.sign c.args.odd c.args.position _ e }
+pub returns-clause-only : goal.returns-clause-only
+returns-clause-only c = rounds_so c.args.self c.args.sign c.args.odd c.args.position _ c.goes_up_to_next.ensures
