@@ -1,3 +1,2 @@
 pub mod Posted
-pub mod Turns
 pub mod Follows

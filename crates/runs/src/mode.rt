@@ -3,6 +3,7 @@ ghost use Rattle.std.specs.Prelude.{◌≡◌};
 
 use card::Setting;
 use rounding::Mode;
+use std::mem;
 
 /// Another mode is in force in a setting as long as this lives. The earlier mode is back when it goes, on every way out.
 pub(crate) struct InMode<'a> {
@@ -14,11 +15,8 @@ impl Drop for InMode<'_> {
     fn drop(self)
         ensures { self.exit.0.now.mode ≡ self.entry.earlier }
     {
-        self.setting.mode = self.earlier;
-        let InMode {
-            setting: _,
-            earlier: _,
-        } = self;
+        let InMode { setting, earlier } = self;
+        setting.mode = earlier;
     }
 }
 
@@ -27,7 +25,6 @@ pub(crate) fn put_in_force<'a>(setting: &'a mut Setting, mode: Mode) -> InMode<'
     ensures in_force { result.setting.now.mode ≡ mode }
     ensures same_name { result.setting.ghost_name ≡ setting.entry.ghost_name }
 {
-    let earlier = setting.mode;
-    setting.mode = mode;
+    let earlier = mem::replace(&mut setting.mode, mode);
     InMode { setting, earlier }
 }

@@ -1,5 +1,5 @@
 // Records, which tell a dividend and a divisor.
-ghost use Rattle.std.specs.Prelude.{◌≡◌, ◌*◌, ◌^◌, ◌<◌, ◌≤◌, pos, negsuc, ◌-ℤ◌, ◌≤ℤ◌, Ok, Result, unsigned_abs};
+ghost use Rattle.std.specs.Prelude.{◌≡◌, ◌*◌, ◌^◌, ◌<◌, ◌≤◌, pos, negsuc, ◌-ℤ◌, ◌≤ℤ◌, IsTrue, Ok, Result, unsigned_abs};
 ghost use Rattle.refusals.specs.declared.Fault.{Fault};
 ghost use Rattle.decimal.specs.Numbers.{datum};
 ghost use Rattle.runs.specs.Records.{Operands, meant, pair_operands, round_in_range, round_judged, round_tenths, whole_datum};
@@ -44,16 +44,13 @@ impl Record for Pair {
 impl Round {
     // Is each part within its limits?
     fn is_in_range(&self) -> bool
-        ensures { result ≡ round_in_range self.now }
+        ensures value { result ≡ round_in_range self.now }
+        ensures slope { IsTrue result → self.now.slope ≤ 155 }
     {
-        18 <= self.gross
-            && self.gross <= 399
-            && 300 <= self.rating
-            && self.rating <= 999
-            && -1 <= self.adjustment
-            && self.adjustment <= 3
-            && 55 <= self.slope
-            && self.slope <= 155
+        (18..=399).contains(&self.gross)
+            && (300..=999).contains(&self.rating)
+            && (-1..=3).contains(&self.adjustment)
+            && (55..=155).contains(&self.slope)
     }
 }
 
@@ -93,10 +90,7 @@ impl Record for Round {
 
     fn operands(&self) -> Result<(Number, Number), Fault> {
         if !self.is_in_range() {
-            return Err(Fault {
-                refusal: Refusal::RoundOutOfRange,
-                place: 0,
-            });
+            return Err(Refusal::RoundOutOfRange.into());
         }
         let dividend = tenths(self.gross, self.rating, self.adjustment);
         Ok((

@@ -13,7 +13,7 @@ use reciprocal::Source;
 use refusals::Fault;
 use rounding::Mode;
 
-/// How many records a run posted, and the fault that stopped it, if any.
+/// How many records a run posted, and the fault that stopped it, if any: both parts stand, since a run that was stopped has still posted.
 #[derive(Clone, Copy)]
 pub struct Ran {
     pub posted: usize,
@@ -35,7 +35,7 @@ fn post_record<R: Record, S: Source>(
 }
 
 /// Posts the records on the card in the mode of this number, from first to last, and stops at the first refusal, which is told with the
-/// record's index. The mode is judged first. The setting has its earlier mode again on every way out.
+/// record's index. The mode is a number since the run judges it, and does so first. The setting has its earlier mode again on every way out.
 pub fn run<R: Record, S: Source>(
     card: &mut Card,
     setting: &mut Setting,
@@ -46,7 +46,7 @@ pub fn run<R: Record, S: Source>(
     ensures ran { ◌≡◌ {A = RunEnd Tally} (record { ran = result; state = tally card.new }) (run_in (mode_numbered mode) (record_posted (S.Source.claim source.now) R.Record.operands_or_fault) records.now (tally card.old)) }
     ensures mode_restored { setting.new.mode ≡ setting.old.mode }
 {
-    let mode = match Mode::numbered(mode) {
+    let mode = match Mode::try_from(mode) {
         Ok(mode) => mode,
         Err(fault) => {
             return Ran {
@@ -61,8 +61,8 @@ pub fn run<R: Record, S: Source>(
             return Ran {
                 posted: index,
                 fault: Some(Fault {
-                    refusal: fault.refusal,
                     place: index,
+                    ..fault
                 }),
             };
         }
