@@ -19,8 +19,10 @@ use Rattle.runs.specs.Records.{Operands, pair_operands, round_judged, record_quo
 use Rattle.runs.specs.Runs.{RunEnd, run_in}
 use Rattle.accounts.specs.declared.calls.Call.{Call}
 use Rattle.accounts.specs.declared.calls.Call.TheVariants.{SetMode, Divide, Begin, Round, Post, StrikeOut, RunPairs, RunRounds, Lower, Clear}
-use Rattle.accounts.specs.declared.calls.Outcome.{Outcome}
-use Rattle.accounts.specs.declared.calls.Outcome.TheVariants.{Done, Quotient, Run, Refused, NoDraft}
+use Rattle.accounts.specs.declared.calls.Answer.{Answer}
+use Rattle.accounts.specs.declared.calls.Answer.TheVariants.{Done, Quotient, Run}
+use Rattle.accounts.specs.declared.calls.NotDone.{NotDone}
+use Rattle.accounts.specs.declared.calls.NotDone.TheVariants.{Refused, NoDraft}
 use Rattle.accounts.specs.Exact.{in_steps, is_large, is_whole_number}
 
 -- a quotient in steps, and the mode in which it was posted
@@ -71,14 +73,18 @@ abbrev pub posting : ℕ → Mode → Result Exact Fault → Standing → Reply 
 posting s m (Err f) t = turned_away f t
 posting s m (Ok q) t = item_posted m (in_steps s q) t
 
+-- what a call answers: an `Outcome` of the program
+abbrev pub CallOutcome : Type 0
+CallOutcome = Result Answer NotDone
+
 -- what a call answers, and the account after it
 pub record Next : Type 0 where
-  pub outcome : Outcome
+  pub outcome : CallOutcome
   pub account : Account
 
-abbrev pub answered : {X : Type 0} → Result X Fault → Outcome
-answered (Ok x) = Done
-answered (Err f) = Refused f
+abbrev pub answered : {X : Type 0} → Result X Fault → CallOutcome
+answered (Ok x) = Ok Done
+answered (Err f) = Err (Refused f)
 
 abbrev pub with_mode : Mode → Account → Account
 with_mode m a = record { mode = m; standing = a.standing; drafts = a.drafts }
@@ -94,8 +100,8 @@ abbrev pub draft_at : ℕ → Account → Option Operands
 draft_at k a = slice_index_or a.drafts k None
 
 abbrev pub divided : Result QuotientWord Fault → Account → Next
-divided (Ok q) a = record { outcome = Quotient q; account = with_standing (with_flags q.flags a.standing) a }
-divided (Err f) a = record { outcome = Refused f; account = a }
+divided (Ok q) a = record { outcome = Ok (Quotient q); account = with_standing (with_flags q.flags a.standing) a }
+divided (Err f) a = record { outcome = Err (Refused f); account = a }
 
 -- a number is taken for every draft, and it is open unless beginning was refused
 abbrev pub opened : {X : Type 0} → Result X Fault → Operands → Option Operands
@@ -110,22 +116,22 @@ begun claim o a =
     }
 
 abbrev pub draft_rounded : Option Operands → Account → Next
-draft_rounded None a = record { outcome = NoDraft; account = a }
+draft_rounded None a = record { outcome = Err NoDraft; account = a }
 draft_rounded (Some o) a = divided (Ok (word_outcome (number_quotient a.mode o.0 o.1))) a
 
 abbrev pub draft_posted : ℕ → Option Operands → Account → Next
-draft_posted s None a = record { outcome = NoDraft; account = a }
+draft_posted s None a = record { outcome = Err NoDraft; account = a }
 draft_posted s (Some o) a =
     let p = posting s a.mode (exact_quotient o.0 o.1) a.standing in
     record { outcome = answered p.answer; account = with_standing p.state a }
 
 abbrev pub draft_struck_out : Option Operands → Account → Next
-draft_struck_out None a = record { outcome = NoDraft; account = a }
-draft_struck_out (Some o) a = record { outcome = Done; account = a }
+draft_struck_out None a = record { outcome = Err NoDraft; account = a }
+draft_struck_out (Some o) a = record { outcome = Ok Done; account = a }
 
 -- A run adds an item in its own mode for each record before a refusal.
 abbrev pub ran : RunEnd Standing → Account → Next
-ran e a = record { outcome = Run e.ran; account = with_standing e.state a }
+ran e a = record { outcome = Ok (Run e.ran); account = with_standing e.state a }
 
 -- each record is judged by itself, then by the source's claim, by its operands and by what stands
 abbrev pub record_posting : {X : Type 0} → ℕ → ℕ → (X → Result Operands Fault) → Mode → X → Standing → Reply Standing (Unit {0})
@@ -141,13 +147,13 @@ next claim s a (Post k) = draft_posted s (draft_at k a) (ended k a)
 next claim s a (StrikeOut k) = draft_struck_out (draft_at k a) (ended k a)
 next claim s a (RunPairs n ps) = ran (run_in (mode_numbered n) (record_posting claim s (λ p. Ok (pair_operands p))) ps.now a.standing) a
 next claim s a (RunRounds n rs) = ran (run_in (mode_numbered n) (record_posting claim s round_judged) rs.now a.standing) a
-next claim s a Lower = record { outcome = Done; account = with_standing (without_flags a.standing) a }
-next claim s a Clear = record { outcome = Done; account = with_standing (without_items a.standing) a }
+next claim s a Lower = record { outcome = Ok Done; account = with_standing (without_flags a.standing) a }
+next claim s a Clear = record { outcome = Ok Done; account = with_standing (without_items a.standing) a }
 
 -- an order of calls on a new card: the account that it comes to, and what each call answered
 pub record Course : Type 0 where
   pub account : Account
-  pub outcomes : List Outcome
+  pub outcomes : List CallOutcome
 
 abbrev pub onward : ℕ → ℕ → Course → Call → Course
 onward claim s p c =

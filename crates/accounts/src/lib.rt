@@ -4,5 +4,5 @@
 mod calls;
 mod worked;
 
-pub use calls::{Call, Outcome};
+pub use calls::{Answer, Call, NotDone, Outcome};
 pub use worked::worked_lines;

@@ -3,21 +3,16 @@ ghost use Rattle.std.specs.Prelude.{◌≡◌, [], ◌∷◌, pos};
 ghost use Rattle.accounts.specs.Worked.{WorkedLines, totals_of_run};
 
 use card::{Card, Setting};
-use reciprocal::{Newton, ThreeDigitTable};
+use reciprocal::TWO_LAYERS;
 use runs::{Pair, Record, Round, run};
 
 // Low, figure and high after a run in mode 1 on a new card of step 1, over two layers on the three-digit table.
 fn totals_of<R: Record>(records: &[R]) -> [i64; 3]
     ensures { result ≡ totals_of_run R.Record.operands_or_fault records.now }
 {
-    let source = Newton {
-        lower: Newton {
-            lower: ThreeDigitTable,
-        },
-    };
     let mut setting = Setting::new();
     let mut card = Card::open(1).unwrap();
-    let _ran = run(&mut card, &mut setting, &source, 1, records);
+    let _ran = run(&mut card, &mut setting, &TWO_LAYERS, 1, records);
     [card.low, card.figure, card.high]
 }
 
