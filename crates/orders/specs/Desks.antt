@@ -1,5 +1,5 @@
 -- The desk beside the account of the calls that were made on it. Assumes nothing.
-use Rattle.std.specs.Prelude.{◌≡◌, ℕ, ◌+◌, ◌≤◌, List, [], ◌∷◌, Some, None, vec_items, vec_len, vec_capacity, Option, Result}
+use Rattle.std.specs.Prelude.{◌≡◌, ℕ, ◌+◌, ◌<◌, ◌≤◌, List, [], ◌∷◌, Some, None, vec_items, vec_len, vec_capacity, Option, Result, ok_or, slice_index_or, slice_set}
 use Rattle.refusals.specs.declared.Fault.{Fault}
 use Rattle.rounding.specs.Modes.{mode_numbered}
 use Rattle.divider.specs.declared.draft.Draft.{Draft}
@@ -9,8 +9,9 @@ use Rattle.card.specs.Tallies.{tally}
 use Rattle.runs.specs.Records.{Operands}
 use Rattle.runs.specs.Runs.{run_in}
 use Rattle.accounts.specs.declared.calls.Call.{Call}
-use Rattle.accounts.specs.declared.calls.Outcome.{Outcome}
-use Rattle.accounts.specs.Account.{Account, Next, next, ran, record_posting}
+use Rattle.accounts.specs.declared.calls.NotDone.{NotDone}
+use Rattle.accounts.specs.declared.calls.NotDone.TheVariants.{NoDraft}
+use Rattle.accounts.specs.Account.{Account, CallOutcome, Next, next, ran, record_posting}
 use Rattle.accounts.specs.Law.{Carries}
 use Rattle.orders.specs.declared.desk.Desk.{Desk}
 
@@ -33,20 +34,33 @@ pub record Agrees (s : ℕ) (a : Account) (k : Desk) : Type 0 where
   pub drafts : Hold (vec_items k.begun) a.drafts
 
 -- the outcome is the account's, and the desk agrees with the account after it
-pub record ComesTo (s : ℕ) (n : Next) (o : Outcome) (k : Desk) : Type 0 where
+pub record ComesTo (s : ℕ) (n : Next) (o : CallOutcome) (k : Desk) : Type 0 where
   pub outcome : o ≡ n.outcome
   pub agrees : Agrees s n.account k
 
--- whatever account the desk agreed with, it agrees with the next one after the call
-abbrev pub Follows : ℕ → Call → Desk → Outcome → Desk → Type 0
-Follows claim call k o l = (s : ℕ) (a : Account) → Agrees s a k → ComesTo s (next claim s a call) o l
-
--- the same for a run over any records
-abbrev pub Runs : {X : Type 0} → ℕ → (X → Result Operands Fault) → ℕ → List X → Desk → Outcome → Desk → Type 0
-Runs claim operands mode xs k o l =
-    (s : ℕ) (a : Account) → Agrees s a k → ComesTo s (ran (run_in (mode_numbered mode) (record_posting claim s operands) xs a.standing) a) o l
-
--- a call takes up one place for a draft at most
-pub record Roomy (k l : Desk) : Type 0 where
+-- whatever account desk k agreed with, desk l agrees with the next one, and at most one place more is taken up for a draft
+pub record Moves (next : ℕ → Account → Next) (k : Desk) (o : CallOutcome) (l : Desk) : Type 0 where
+  pub follows : (s : ℕ) (a : Account) → Agrees s a k → ComesTo s (next s a) o l
   pub cap : vec_capacity l.begun ≡ vec_capacity k.begun
   pub len : vec_len l.begun ≤ vec_len k.begun + 1
+
+-- one call
+abbrev pub Follows : ℕ → Call → Desk → CallOutcome → Desk → Type 0
+Follows claim call k o l = Moves (λ s a. next claim s a call) k o l
+
+-- the same for a run over any records
+abbrev pub Runs : {X : Type 0} → ℕ → (X → Result Operands Fault) → ℕ → List X → Desk → CallOutcome → Desk → Type 0
+Runs claim operands mode xs k o l = Moves (λ s a. ran (run_in (mode_numbered mode) (record_posting claim s operands) xs a.standing) a) k o l
+
+-- the desk has a place for one draft more
+abbrev pub HasPlace : Desk → Type 0
+HasPlace k = vec_len k.begun < vec_capacity k.begun
+
+-- the draft of this number, if it is open, is taken off the desk
+pub record Taken (number : ℕ) (k : Desk) (d : Result Draft NotDone) (l : Desk) : Type 0 where
+  pub draft : d ≡ ok_or (slice_index_or (vec_items k.begun) number None) NoDraft
+  pub drafts : vec_items l.begun ≡ slice_set (vec_items k.begun) number None
+  pub card : l.card ≡ k.card
+  pub setting : l.setting ≡ k.setting
+  pub cap : vec_capacity l.begun ≡ vec_capacity k.begun
+  pub len : vec_len l.begun ≡ vec_len k.begun

@@ -5,9 +5,8 @@ use Rattle.refusals.specs.Refusals.{at_no_place}
 use Rattle.reciprocal.specs.Layers.{LayersApproximate}
 use Rattle.card.specs.Tallies.{Tally}
 use Rattle.accounts.specs.declared.calls.Call.{Call}
-use Rattle.accounts.specs.declared.calls.Outcome.{Outcome}
 use Rattle.accounts.specs.Exact.{ModesMean}
-use Rattle.accounts.specs.Account.{Item, course}
+use Rattle.accounts.specs.Account.{CallOutcome, Item, course}
 use Rattle.accounts.specs.Law.{Totals, Bounds, exact_sum}
 use Rattle.orders.specs.declared.room.Room.{Room}
 use Rattle.orders.specs.declared.replaying.NotReplayed.{NotReplayed}
@@ -26,7 +25,7 @@ abbrev pub items_of : ℕ → ℕ → List Call → List Item
 items_of claim s calls = (course claim s calls).account.standing.items
 
 -- a card t of step s after an order of calls, over a source of this claim
-pub record SeasonLaw (claim s : ℕ) (calls : List Call) (outcomes : List Outcome) (t : Tally) : Type 0 where
+pub record SeasonLaw (claim s : ℕ) (calls : List Call) (outcomes : List CallOutcome) (t : Tally) : Type 0 where
   -- every call answered what the account says
   pub answers : outcomes ≡ (course claim s calls).outcomes
   pub step : t.step ≡ s

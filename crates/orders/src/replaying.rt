@@ -1,7 +1,8 @@
 // An order of calls, carried out on a new card and a new setting.
 ghost use Rattle.std.specs.Prelude.{◌≡◌, ◌≤◌, length, IfOk};
 ghost use Rattle.std.specs.Result.{result_err};
-ghost use Rattle.card.specs.Tallies.{tally};
+ghost use Rattle.card.specs.Tallies.{opened, tally};
+ghost use Rattle.orders.specs.declared.replaying.NotReplayed.TheVariants.{Step};
 ghost use Rattle.orders.specs.Laws.{SeasonLaw, not_replayed, places};
 
 use crate::desk::Desk;
@@ -26,6 +27,14 @@ pub enum NotReplayed {
     Room,
 }
 
+impl From<Fault> for NotReplayed {
+    ghost from_gives = { λ fault not_replayed. not_replayed ≡ Step fault };
+
+    fn from(fault: Fault) -> NotReplayed {
+        NotReplayed::Step(fault)
+    }
+}
+
 impl Room {
     /// Room for an order of so many calls.
     pub fn for_calls(heap: Global, calls: usize) -> Result<Room, AllocError>
@@ -34,6 +43,56 @@ impl Room {
         let outcomes = Vec::with_capacity(heap, calls)?;
         let drafts = Vec::with_capacity(heap, calls)?;
         Ok(Room { drafts, outcomes })
+    }
+
+    // The calls that there is room for.
+    pub(crate) fn places(&self) -> usize
+        ensures { result ≡ places self.now }
+    {
+        self.drafts.capacity().min(self.outcomes.capacity())
+    }
+
+    // Ends a room that no order was carried out in. A type that is taken apart elsewhere, as by an order that is, cannot have a drop.
+    pub(crate) fn leave(self) {
+        let Room {
+            drafts,
+            outcomes: _,
+        } = self;
+        drafts.destroy_empty();
+    }
+}
+
+// The card of an order of so many calls, if it may begin.
+fn card_for(step: u8, calls: usize, room: &Room) -> Result<Card, NotReplayed>
+    ensures refused { result_err result ≡ not_replayed step calls (places room.now) }
+    ensures room { IfOk result (λ _. calls ≤ places room.now) }
+    ensures card { IfOk result (λ card. tally card ≡ opened step) }
+{
+    let card = Card::open(step)?;
+    if room.places() < calls {
+        return Err(NotReplayed::Room);
+    }
+    Ok(card)
+}
+
+// Carries out the calls in their order on a new card, and strikes out what is still open at the end.
+fn carry_out<S: Source>(source: &S, card: Card, calls: &[Call], room: Room) -> Replayed
+    requires new { tally card ≡ opened card.step }
+    requires room { length calls.now ≤ places room }
+    ensures { SeasonLaw (S.Source.claim source.now) card.step calls.now result.outcomes.items (tally result.card) }
+{
+    let Room {
+        drafts,
+        mut outcomes,
+    } = room;
+    let mut desk = Desk::new(card, drafts);
+    for call in calls {
+        let outcome = desk.perform(source, call);
+        outcomes.push_reserved(outcome);
+    }
+    Replayed {
+        card: desk.close(),
+        outcomes,
     }
 }
 
@@ -48,28 +107,11 @@ pub fn replay<S: Source>(
     ensures refused { result_err result ≡ not_replayed step (length calls.now) (places room) }
     ensures law { IfOk result (λ p. SeasonLaw (S.Source.claim source.now) step calls.now p.outcomes.items (tally p.card)) }
 {
-    let Room {
-        drafts,
-        mut outcomes,
-    } = room;
-    let card = match Card::open(step) {
-        Ok(card) => card,
-        Err(fault) => {
-            drafts.destroy_empty();
-            return Err(NotReplayed::Step(fault));
+    match card_for(step, calls.len(), &room) {
+        Ok(card) => Ok(carry_out(source, card, calls, room)),
+        Err(why) => {
+            room.leave();
+            Err(why)
         }
-    };
-    if drafts.capacity() < calls.len() || outcomes.capacity() < calls.len() {
-        drafts.destroy_empty();
-        return Err(NotReplayed::Room);
     }
-    let mut desk = Desk::new(card, drafts);
-    for call in calls {
-        let outcome = desk.perform(source, call);
-        outcomes.push_reserved(outcome);
-    }
-    Ok(Replayed {
-        card: desk.close(),
-        outcomes,
-    })
 }

@@ -1,27 +1,17 @@
 // Each call on the desk, beside what it does to the account.
-ghost use Rattle.std.specs.Prelude.{◌≡◌, ℕ, ◌<◌, None, vec_len, vec_capacity, slice_index_or, slice_set};
+ghost use Rattle.std.specs.Prelude.{◌≡◌, ℕ, vec_len};
 ghost use Rattle.card.specs.Tallies.{opened, tally};
 ghost use Rattle.accounts.specs.declared.calls.Call.TheVariants.{SetMode, Divide, Begin, Round, Post, StrikeOut, Lower, Clear};
-ghost use Rattle.accounts.specs.Account.{answered, fresh};
-ghost use Rattle.orders.specs.Desks.{Agrees, Follows, Roomy, Runs};
+ghost use Rattle.accounts.specs.Account.{fresh};
+ghost use Rattle.orders.specs.Desks.{Agrees, Follows, HasPlace, Runs, Taken};
 
 use crate::desk::Desk;
-use accounts::{Call, Outcome};
+use accounts::{Answer, Call, NotDone, Outcome};
 use card::{Card, Setting};
-use decimal::{read_word, write_word};
-use divider::{Draft, QuotientWord};
+use decimal::read_word;
+use divider::Draft;
 use reciprocal::Source;
-use refusals::Fault;
 use runs::{Pair, Record, run};
-
-fn done_or_refused(answer: Result<(), Fault>) -> Outcome
-    ensures { result ≡ answered answer }
-{
-    match answer {
-        Ok(()) => Outcome::Done,
-        Err(fault) => Outcome::Refused(fault),
-    }
-}
 
 impl Desk {
     pub(crate) fn new(card: Card, begun: Vec<Option<Draft>>) -> Desk
@@ -37,124 +27,96 @@ impl Desk {
     }
 
     // The draft of a number, if it is open, which is then no longer on the desk.
-    fn take(&mut self, number: usize) -> Option<Draft>
-        ensures value { result ≡ slice_index_or self.old.begun.items number None }
-        ensures drafts { self.new.begun.items ≡ slice_set self.old.begun.items number None }
-        ensures card { self.new.card ≡ self.old.card }
-        ensures setting { self.new.setting ≡ self.old.setting }
-        ensures room { Roomy self.old self.new }
+    fn take(&mut self, number: usize) -> Result<Draft, NotDone>
+        ensures { Taken number self.old result self.new }
     {
-        if number < self.begun.len() {
-            self.begun[number].take()
-        } else {
-            None
-        }
+        let Some(place) = self.begun.get_mut(number) else {
+            return Err(NotDone::NoDraft);
+        };
+        place.take().ok_or(NotDone::NoDraft)
     }
 
     fn set_mode(&mut self, number: u32) -> Outcome
-        ensures follows { (claim : ℕ) → Follows claim (SetMode number) self.old result self.new }
-        ensures room { Roomy self.old self.new }
+        ensures { (claim : ℕ) → Follows claim (SetMode number) self.old result self.new }
     {
-        done_or_refused(self.setting.set(number))
+        self.setting.set(number)?;
+        Ok(Answer::Done)
     }
 
     fn divide<S: Source>(&mut self, source: &S, pair: Pair) -> Outcome
-        ensures follows { Follows (S.Source.claim source.now) (Divide pair) self.old result self.new }
-        ensures room { Roomy self.old self.new }
+        ensures { Follows (S.Source.claim source.now) (Divide pair) self.old result self.new }
     {
-        match self
+        let quotient = self
             .card
-            .divide(source, &self.setting, pair.dividend, pair.divisor)
-        {
-            Ok(quotient) => Outcome::Quotient(quotient),
-            Err(fault) => Outcome::Refused(fault),
-        }
+            .divide(source, &self.setting, pair.dividend, pair.divisor)?;
+        Ok(Answer::Quotient(quotient))
     }
 
     fn begin<S: Source>(&mut self, source: &S, pair: Pair) -> Outcome
-        requires { vec_len self.old.begun < vec_capacity self.old.begun }
-        ensures follows { Follows (S.Source.claim source.now) (Begin pair) self.old result self.new }
-        ensures room { Roomy self.old self.new }
+        requires { HasPlace self.old }
+        ensures { Follows (S.Source.claim source.now) (Begin pair) self.old result self.new }
     {
         match Draft::begin(source, &read_word(pair.dividend), &read_word(pair.divisor)) {
             Ok(draft) => {
                 self.begun.push_reserved(Some(draft));
-                Outcome::Done
+                Ok(Answer::Done)
             }
             Err(fault) => {
                 self.begun.push_reserved(None);
-                Outcome::Refused(fault)
+                Err(fault.into())
             }
         }
     }
 
     fn round(&mut self, number: usize) -> Outcome
-        ensures follows { (claim : ℕ) → Follows claim (Round number) self.old result self.new }
-        ensures room { Roomy self.old self.new }
+        ensures { (claim : ℕ) → Follows claim (Round number) self.old result self.new }
     {
-        match self.take(number) {
-            Some(draft) => {
-                let quotient = self.card.round(draft, &self.setting);
-                Outcome::Quotient(QuotientWord {
-                    word: write_word(&quotient.number),
-                    flags: quotient.flags,
-                })
-            }
-            None => Outcome::NoDraft,
-        }
+        let draft = self.take(number)?;
+        let quotient = self.card.round(draft, &self.setting);
+        Ok(Answer::Quotient(quotient.into()))
     }
 
     fn post(&mut self, number: usize) -> Outcome
-        ensures follows { (claim : ℕ) → Follows claim (Post number) self.old result self.new }
-        ensures room { Roomy self.old self.new }
+        ensures { (claim : ℕ) → Follows claim (Post number) self.old result self.new }
     {
-        match self.take(number) {
-            Some(draft) => done_or_refused(self.card.post(draft, &self.setting)),
-            None => Outcome::NoDraft,
-        }
+        let draft = self.take(number)?;
+        self.card.post(draft, &self.setting)?;
+        Ok(Answer::Done)
     }
 
     fn strike_out(&mut self, number: usize) -> Outcome
-        ensures follows { (claim : ℕ) → Follows claim (StrikeOut number) self.old result self.new }
-        ensures room { Roomy self.old self.new }
+        ensures { (claim : ℕ) → Follows claim (StrikeOut number) self.old result self.new }
     {
-        match self.take(number) {
-            Some(draft) => {
-                draft.strike_out();
-                Outcome::Done
-            }
-            None => Outcome::NoDraft,
-        }
+        let draft = self.take(number)?;
+        draft.strike_out();
+        Ok(Answer::Done)
     }
 
     fn run_over<R: Record, S: Source>(&mut self, source: &S, mode: u32, records: &[R]) -> Outcome
-        ensures runs { Runs (S.Source.claim source.now) R.Record.operands_or_fault mode records.now self.old result self.new }
-        ensures room { Roomy self.old self.new }
+        ensures { Runs (S.Source.claim source.now) R.Record.operands_or_fault mode records.now self.old result self.new }
     {
-        Outcome::Run(run(&mut self.card, &mut self.setting, source, mode, records))
+        let ran = run(&mut self.card, &mut self.setting, source, mode, records);
+        Ok(Answer::Run(ran))
     }
 
     fn lower(&mut self) -> Outcome
-        ensures follows { (claim : ℕ) → Follows claim Lower self.old result self.new }
-        ensures room { Roomy self.old self.new }
+        ensures { (claim : ℕ) → Follows claim Lower self.old result self.new }
     {
         self.card.lower();
-        Outcome::Done
+        Ok(Answer::Done)
     }
 
     fn clear(&mut self) -> Outcome
-        ensures follows { (claim : ℕ) → Follows claim Clear self.old result self.new }
-        ensures room { Roomy self.old self.new }
+        ensures { (claim : ℕ) → Follows claim Clear self.old result self.new }
     {
         self.card.clear();
-        Outcome::Done
+        Ok(Answer::Done)
     }
 
     // Makes one call.
     pub(crate) fn perform<S: Source>(&mut self, source: &S, call: &Call) -> Outcome
-        requires { vec_len self.old.begun < vec_capacity self.old.begun }
-        ensures follows { Follows (S.Source.claim source.now) call.now self.old result self.new }
-        ensures room { Roomy self.old self.new }
+        requires { HasPlace self.old }
+        ensures { Follows (S.Source.claim source.now) call.now self.old result self.new }
     {
         match call {
             Call::SetMode(number) => self.set_mode(*number),
@@ -179,6 +141,7 @@ impl Desk {
             card,
             mut begun,
         } = self;
+        // A `for` over the list gets no proof: it could let go of a draft that is open.
         while let Some(place) = begun.pop() {
             if let Some(draft) = place {
                 draft.strike_out();

@@ -1,34 +1,23 @@
 -- The draft that was open is posted as the exact quotient of its two numbers.
 -- Assumes nothing.
-use Rattle.std.proofs.Common.{Some, sym, refl, ◌∙◌, subst}
-use Rattle.accounts.specs.Account.{draft_posted, ended}
-use Rattle.orders.specs.declared.desk.Desk.{Desk}
-use Rattle.orders.specs.Desks.{ComesTo}
-use Rattle.orders.proofs.Moves.{Taken, none_comes, posted_comes, some_comes, taken}
+use Rattle.std.proofs.Common.{Err, refl, sym, ap, ◌∙◌}
+use Rattle.std.proofs.lemmas.Result.{err_from_is_err_and}
+use Rattle.accounts.specs.Account.{answered, draft_posted}
+use Rattle.orders.proofs.Moves.{none_open, one_open, posted_comes}
 use Rattle.orders.proofs.desk.Desk.post.Goals as goal
 
-pub returns-in-Some : goal.returns-in-Some
-returns-in-Some c =
-    let n = c.args.number in
-    let k = c.args.self.now in
-    let l = c.take.new.self in
-    let m : Desk = record { setting = l.setting; card = c.post.new.self; begun = l.begun } in
-    let t : Taken n k l = record { drafts = c.take.ensures.drafts; card = c.take.ensures.card; setting = c.take.ensures.setting } in
-    record {
-      follows = λ claim s a g.
-          some_comes s n a k l g t (λ o. draft_posted s o (ended n a)) c.in-Some.draft _ m (sym c.in-Some.is ∙ c.take.ensures.value)
-          (λ p h. subst (λ o. ComesTo s (draft_posted s (Some p) (ended n a)) o m) (sym c.done_or_refused.ensures)
-          (posted_comes s (ended n a) l (taken s n a k l g t) p c.in-Some.draft h c.post.result c.post.new.self c.post.ensures));
-      room = record { cap = c.take.ensures.room.cap; len = c.take.ensures.room.len };
-    }
+pub returns-in_err-draft : goal.returns-in_err-draft
+returns-in_err-draft c = λ claim.
+    let e = err_from_is_err_and c.from_residual.result c.from_residual.ensures.1 in
+    none_open c.take.ensures draft_posted c.in_err-draft.was (e.1 ∙ ap (λ n. Err n) e.2) (λ s a. refl)
 
-pub returns-in-None : goal.returns-in-None
-returns-in-None c =
-    let n = c.args.number in
-    let k = c.args.self.now in
-    let l = c.take.new.self in
-    let t : Taken n k l = record { drafts = c.take.ensures.drafts; card = c.take.ensures.card; setting = c.take.ensures.setting } in
-    record {
-      follows = λ claim s a g. none_comes s n a k l g t (λ o. draft_posted s o (ended n a)) refl (sym c.in-None.is ∙ c.take.ensures.value);
-      room = c.take.ensures.room;
-    }
+pub returns-in_err-post : goal.returns-in_err-post
+returns-in_err-post c = λ claim.
+    let e = err_from_is_err_and c.from_residual-in_err-post.result c.from_residual-in_err-post.ensures.1 in
+    one_open c.take.ensures draft_posted c.in_ok-draft.was refl
+    (λ s a g p h. posted_comes g p c.in_ok-draft.draft h c.post.result c.post.new.self (e.1 ∙ ap (λ n. Err n) e.2 ∙ ap answered (sym c.in_err-post.was)) c.post.ensures)
+
+pub returns : goal.returns
+returns c = λ claim.
+    one_open c.take.ensures draft_posted c.in_ok-draft.was refl
+    (λ s a g p h. posted_comes g p c.in_ok-draft.draft h c.post.result c.post.new.self (ap answered (sym c.in_ok-post.was)) c.post.ensures)

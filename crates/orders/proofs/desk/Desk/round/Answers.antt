@@ -1,31 +1,18 @@
 -- The draft that was open is rounded as its two numbers are.
 -- Assumes nothing.
-use Rattle.std.proofs.Common.{sym, refl, ◌∙◌}
-use Rattle.accounts.specs.Account.{draft_rounded, ended}
-use Rattle.orders.proofs.Moves.{Taken, none_comes, rounded_comes, some_comes, taken}
+use Rattle.std.proofs.Common.{Err, refl, ap, ◌∙◌}
+use Rattle.std.proofs.lemmas.Result.{err_from_is_err_and}
+use Rattle.accounts.specs.Account.{draft_rounded}
+use Rattle.orders.proofs.Moves.{none_open, one_open, rounded_comes}
 use Rattle.orders.proofs.desk.Desk.round.Goals as goal
 
-pub returns-in-Some : goal.returns-in-Some
-returns-in-Some c =
-    let n = c.args.number in
-    let k = c.args.self.now in
-    let l = c.take.new.self in
-    let q = c.round-quotient in
-    let t : Taken n k l = record { drafts = c.take.ensures.drafts; card = c.take.ensures.card; setting = c.take.ensures.setting } in
-    record {
-      follows = λ claim s a g.
-          some_comes s n a k l g t (λ o. draft_rounded o (ended n a)) c.in-Some.draft _ _ (sym c.in-Some.is ∙ c.take.ensures.value)
-          (λ p h. rounded_comes s (ended n a) l (taken s n a k l g t) p c.in-Some.draft h q.result c.write_word.result q.new.self c.write_word.ensures.word q.ensures.value q.ensures.raised);
-      room = record { cap = c.take.ensures.room.cap; len = c.take.ensures.room.len };
-    }
+pub returns-in_err-draft : goal.returns-in_err-draft
+returns-in_err-draft c = λ claim.
+    let e = err_from_is_err_and c.from_residual.result c.from_residual.ensures.1 in
+    none_open c.take.ensures (λ s. draft_rounded) c.in_err-draft.was (e.1 ∙ ap (λ n. Err n) e.2) (λ s a. refl)
 
-pub returns-in-None : goal.returns-in-None
-returns-in-None c =
-    let n = c.args.number in
-    let k = c.args.self.now in
-    let l = c.take.new.self in
-    let t : Taken n k l = record { drafts = c.take.ensures.drafts; card = c.take.ensures.card; setting = c.take.ensures.setting } in
-    record {
-      follows = λ claim s a g. none_comes s n a k l g t (λ o. draft_rounded o (ended n a)) refl (sym c.in-None.is ∙ c.take.ensures.value);
-      room = c.take.ensures.room;
-    }
+pub returns : goal.returns
+returns c = λ claim.
+    let q = c.round-quotient in
+    one_open c.take.ensures (λ s. draft_rounded) c.in_ok-draft.was refl
+    (λ s a g p h. rounded_comes g p c.in_ok-draft.draft h q.result c.into.result q.new.self c.into.ensures q.ensures.value q.ensures.raised)

@@ -1,30 +1,15 @@
 -- The draft that was open has ended.
 -- Assumes nothing.
-use Rattle.std.proofs.Common.{sym, refl, ◌∙◌}
-use Rattle.accounts.specs.Account.{draft_struck_out, ended}
-use Rattle.orders.proofs.Moves.{Taken, none_comes, some_comes, taken}
+use Rattle.std.proofs.Common.{Err, refl, ap, ◌∙◌}
+use Rattle.std.proofs.lemmas.Result.{err_from_is_err_and}
+use Rattle.accounts.specs.Account.{draft_struck_out}
+use Rattle.orders.proofs.Moves.{none_open, one_open}
 use Rattle.orders.proofs.desk.Desk.strike_out.Goals as goal
 
-pub returns-in-Some : goal.returns-in-Some
-returns-in-Some c =
-    let n = c.args.number in
-    let k = c.args.self.now in
-    let l = c.take.new.self in
-    let t : Taken n k l = record { drafts = c.take.ensures.drafts; card = c.take.ensures.card; setting = c.take.ensures.setting } in
-    record {
-      follows = λ claim s a g.
-          some_comes s n a k l g t (λ o. draft_struck_out o (ended n a)) c.in-Some.draft _ l (sym c.in-Some.is ∙ c.take.ensures.value)
-          (λ p h. record { outcome = refl; agrees = taken s n a k l g t });
-      room = c.take.ensures.room;
-    }
+pub returns-in_err-draft : goal.returns-in_err-draft
+returns-in_err-draft c = λ claim.
+    let e = err_from_is_err_and c.from_residual.result c.from_residual.ensures.1 in
+    none_open c.take.ensures (λ s. draft_struck_out) c.in_err-draft.was (e.1 ∙ ap (λ n. Err n) e.2) (λ s a. refl)
 
-pub returns-in-None : goal.returns-in-None
-returns-in-None c =
-    let n = c.args.number in
-    let k = c.args.self.now in
-    let l = c.take.new.self in
-    let t : Taken n k l = record { drafts = c.take.ensures.drafts; card = c.take.ensures.card; setting = c.take.ensures.setting } in
-    record {
-      follows = λ claim s a g. none_comes s n a k l g t (λ o. draft_struck_out o (ended n a)) refl (sym c.in-None.is ∙ c.take.ensures.value);
-      room = c.take.ensures.room;
-    }
+pub returns : goal.returns
+returns c = λ claim. one_open c.take.ensures (λ s. draft_struck_out) c.in_ok-draft.was refl (λ s a g p h. record { outcome = refl; agrees = g })
