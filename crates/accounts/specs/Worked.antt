@@ -6,7 +6,7 @@ use Rattle.rounding.specs.Modes.{mode_numbered}
 use Rattle.divider.specs.Exact.{Exact}
 use Rattle.divider.specs.Worked as division
 use Rattle.card.specs.Tallies.{Tally, opened}
-use Rattle.runs.specs.declared.records.Pair.{Pair}
+use Rattle.divider.specs.declared.pair.Pair.{Pair}
 use Rattle.runs.specs.declared.records.Round.{Round}
 use Rattle.runs.specs.Records.{Operands, record_quotient, round_judged}
 use Rattle.runs.specs.Runs.{record_posted, run_in}

@@ -10,7 +10,7 @@ ghost use Rattle.card.specs.Tallies.{After, added, after_division, is_near, lowe
 use crate::card::Card;
 use crate::setting::Setting;
 use crate::steps::Steps;
-use divider::{Draft, Quotient, QuotientWord, divide_words};
+use divider::{Draft, Pair, Quotient, QuotientWord, divide_words};
 use reciprocal::Source;
 use refusals::{Fault, Refusal};
 use rounding::{Flags, Mode};
@@ -100,13 +100,12 @@ impl Card {
         &mut self,
         source: &S,
         setting: &Setting,
-        dividend: u32,
-        divisor: u32,
+        pair: Pair,
     ) -> Result<QuotientWord, Fault>
-        ensures value { result ≡ word_division (S.Source.claim source.now) setting.now.mode dividend divisor }
+        ensures value { result ≡ word_division (S.Source.claim source.now) setting.now.mode pair.dividend pair.divisor }
         ensures after { tally self.new ≡ after_division result (tally self.old) }
     {
-        let quotient = divide_words(source, setting.mode, dividend, divisor)?;
+        let quotient = divide_words(source, setting.mode, pair)?;
         self.raise(quotient.flags);
         Ok(quotient)
     }

@@ -7,7 +7,8 @@ ghost use Rattle.divider.specs.Divisions.{agreement, exactly, finite_quotient, i
 use crate::begin::{begin_finite, multiply_signs};
 use crate::nine::NineDigits;
 use crate::outcome::{Quotient, QuotientWord};
-use decimal::{Finite, Nan, Number, read_word};
+use crate::pair::Pair;
+use decimal::{Finite, Nan, Number};
 use reciprocal::Source;
 use refusals::Fault;
 use rounding::{Flags, Mode, Sign};
@@ -102,17 +103,12 @@ fn divide_numbers<S: Source>(source: &NineDigits<S>, mode: Mode, y: Number, x: N
 
 /// The quotient of two words in a mode, with the exceptions that it raises. Refuses a source that claims under nine, before the words are
 /// looked at. The answer is IEEE's: the exact quotient, rounded once; it does not depend on the source.
-pub fn divide_words<S: Source>(
-    source: &S,
-    mode: Mode,
-    dividend: u32,
-    divisor: u32,
-) -> Result<QuotientWord, Fault>
-    ensures { result ≡ word_division (S.Source.claim source.now) mode dividend divisor }
+pub fn divide_words<S: Source>(source: &S, mode: Mode, pair: Pair) -> Result<QuotientWord, Fault>
+    ensures { result ≡ word_division (S.Source.claim source.now) mode pair.dividend pair.divisor }
 {
     let source = NineDigits::of(source)?;
-    let quotient = divide_numbers(&source, mode, read_word(dividend), read_word(divisor));
-    Ok(quotient.into())
+    let (dividend, divisor) = pair.numbers();
+    Ok(divide_numbers(&source, mode, dividend, divisor).into())
 }
 
 /// Divides two words by each of two sources, and tells whether word and flags are the same. Where both sources claim nine, they always are:
@@ -121,12 +117,11 @@ pub fn sources_agree<S: Source, T: Source>(
     first: &S,
     second: &T,
     mode: Mode,
-    dividend: u32,
-    divisor: u32,
+    pair: Pair,
 ) -> Result<bool, Fault>
     ensures { result ≡ agreement (S.Source.claim first.now) (T.Source.claim second.now) }
 {
-    let one = divide_words(first, mode, dividend, divisor)?;
-    let other = divide_words(second, mode, dividend, divisor)?;
+    let one = divide_words(first, mode, pair)?;
+    let other = divide_words(second, mode, pair)?;
     Ok(one == other)
 }

@@ -5,6 +5,7 @@ ghost use Rattle.divider.specs.Worked.{WorkedLines, worked_words};
 
 use crate::divide::divide_words;
 use crate::outcome::QuotientWord;
+use crate::pair::Pair;
 use reciprocal::TWO_LAYERS;
 use rounding::Mode;
 
@@ -12,7 +13,7 @@ use rounding::Mode;
 fn quotient_of(mode: Mode, dividend: u32, divisor: u32) -> QuotientWord
     ensures { result ≡ word_quotient mode dividend divisor }
 {
-    divide_words(&TWO_LAYERS, mode, dividend, divisor).unwrap()
+    divide_words(&TWO_LAYERS, mode, Pair { dividend, divisor }).unwrap()
 }
 
 /// 1 / 3, 1E2 / 2, 1E90 / 1E-6, 1E90 / 1E-7, 9999999E-101 / 10 and 1E-101 / 2 to the nearest, ties to even; and 1E-101 / 2 with ties away from zero.

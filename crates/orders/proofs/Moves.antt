@@ -15,7 +15,7 @@ use Rattle.card.specs.declared.card.Card.{Card}
 use Rattle.card.specs.Replies.{Reply, posted_exact}
 use Rattle.card.specs.Tallies.{After, Tally, posted_quotient, tally, with_raised}
 use Rattle.runs.specs.declared.running.Ran.{Ran}
-use Rattle.runs.specs.declared.records.Pair.{Pair}
+use Rattle.divider.specs.declared.pair.Pair.{Pair}
 use Rattle.runs.specs.Records.{Operands, pair_operands}
 use Rattle.runs.specs.Runs.{RunEnd, record_posted, run_in}
 use Rattle.runs.proofs.Posted as posted

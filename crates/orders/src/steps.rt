@@ -8,7 +8,6 @@ ghost use Rattle.orders.specs.Desks.{Agrees, Follows, HasPlace, Runs, Taken};
 use crate::desk::Desk;
 use accounts::{Answer, Call, NotDone, Outcome};
 use card::{Card, Setting};
-use decimal::read_word;
 use divider::Draft;
 use reciprocal::Source;
 use runs::{Pair, Record, run};
@@ -46,9 +45,7 @@ impl Desk {
     fn divide<S: Source>(&mut self, source: &S, pair: Pair) -> Outcome
         ensures { Follows (S.Source.claim source.now) (Divide pair) self.old result self.new }
     {
-        let quotient = self
-            .card
-            .divide(source, &self.setting, pair.dividend, pair.divisor)?;
+        let quotient = self.card.divide(source, &self.setting, pair)?;
         Ok(Answer::Quotient(quotient))
     }
 
@@ -56,7 +53,8 @@ impl Desk {
         requires { HasPlace self.old }
         ensures { Follows (S.Source.claim source.now) (Begin pair) self.old result self.new }
     {
-        match Draft::begin(source, &read_word(pair.dividend), &read_word(pair.divisor)) {
+        let (dividend, divisor) = pair.numbers();
+        match Draft::begin(source, &dividend, &divisor) {
             Ok(draft) => {
                 self.begun.push_reserved(Some(draft));
                 Ok(Answer::Done)

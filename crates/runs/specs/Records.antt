@@ -10,7 +10,7 @@ use Rattle.decimal.specs.Numbers.{Datum, finite, datum}
 use Rattle.decimal.specs.Words.{number_of}
 use Rattle.decimal.specs.Words.{decimal32 as decimal32_words}
 use Rattle.divider.specs.Exact.{Exact, begun_quotient}
-use Rattle.runs.specs.declared.records.Pair.{Pair}
+use Rattle.divider.specs.declared.pair.Pair.{Pair}
 use Rattle.runs.specs.declared.records.Round.{Round}
 
 -- a dividend and a divisor

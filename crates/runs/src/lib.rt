@@ -5,5 +5,6 @@ mod mode;
 mod records;
 mod running;
 
-pub use records::{Pair, Record, Round};
+pub use divider::Pair;
+pub use records::{Record, Round};
 pub use running::{Ran, run};

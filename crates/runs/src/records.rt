@@ -4,7 +4,8 @@ ghost use Rattle.refusals.specs.declared.Fault.{Fault};
 ghost use Rattle.decimal.specs.Numbers.{datum};
 ghost use Rattle.runs.specs.Records.{Operands, meant, pair_operands, round_in_range, round_judged, round_tenths, whole_datum};
 
-use decimal::{Finite, Number, read_word};
+use decimal::{Finite, Number};
+use divider::Pair;
 use refusals::{Fault, Refusal};
 use rounding::Sign;
 
@@ -15,13 +16,6 @@ pub trait Record {
     /// The dividend and the divisor.
     fn operands(&self) -> Result<(Number, Number), Fault>
         ensures { meant result ≡ operands_or_fault self.now };
-}
-
-/// A pair of words, for the two numbers that they are read as.
-#[derive(Clone, Copy)]
-pub struct Pair {
-    pub dividend: u32,
-    pub divisor: u32,
 }
 
 /// A golf round: gross score, course rating in tenths, adjustment for playing conditions, and slope.
@@ -37,7 +31,7 @@ impl Record for Pair {
     ghost operands_or_fault = { λ p. Ok (pair_operands p) };
 
     fn operands(&self) -> Result<(Number, Number), Fault> {
-        Ok((read_word(self.dividend), read_word(self.divisor)))
+        Ok(self.numbers())
     }
 }
 

@@ -7,11 +7,11 @@ use Rattle.orders.proofs.desk.Desk.begin.Goals as goal
 pub returns-in-Ok : goal.returns-in-Ok
 returns-in-Ok g c =
     let v = c.push_reserved.ensures in
-    begun_follows _ (g.S.Source.reciprocal c.args.source.now) _ (λ i. (c.read_word.ensures.number i, c.read_word-2.ensures.number i)) refl refl v.capacity v.len
+    begun_follows _ (g.S.Source.reciprocal c.args.source.now) _ (λ i. (c.numbers-dividend.ensures.dividend i, c.numbers-dividend.ensures.divisor i)) refl refl v.capacity v.len
     c.in-Ok.draft c.in-Ok.ensures.held c.in-Ok.ensures.stands v.items
 
 pub returns-in-Err : goal.returns-in-Err
 returns-in-Err g c =
     let v = c.push_reserved-in-Err.ensures in
-    refused_follows _ (g.S.Source.reciprocal c.args.source.now) _ (λ i. (c.read_word.ensures.number i, c.read_word-2.ensures.number i)) refl refl v.capacity v.len
+    refused_follows _ (g.S.Source.reciprocal c.args.source.now) _ (λ i. (c.numbers-dividend.ensures.dividend i, c.numbers-dividend.ensures.divisor i)) refl refl v.capacity v.len
     c.in-Err.fault c.in-Err.ensures.held c.into.ensures v.items
