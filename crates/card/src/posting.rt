@@ -4,7 +4,7 @@ ghost use Rattle.rounding.specs.Flags.{raised_by_either};
 ghost use Rattle.quotient.specs.Quotients.{decimal32, divided};
 ghost use Rattle.quotient.specs.Splits.{between};
 ghost use Rattle.divider.specs.Divisions.{outcome, under_sign, word_division};
-ghost use Rattle.divider.specs.Drafts.{StandsFor, held};
+ghost use Rattle.divider.specs.Drafts.{StandsFor};
 ghost use Rattle.card.specs.Tallies.{After, added, after_division, is_near, lowered, posted_quotient, tally, with_raised};
 
 use crate::card::Card;
@@ -66,7 +66,7 @@ impl Card {
     /// Posts a draft in the mode in force, and ends it. Refuses on a full card, and then a quotient of 10,000,000 steps or more; a refused
     /// posting changes nothing. Whatever fraction n / d the draft stands for, that is what is posted.
     pub fn post(&mut self, draft: Draft, setting: &Setting) -> Result<(), Fault>
-        ensures { (n d : ℕ) → StandsFor (held draft) n d → ◌≡◌ {A = After (Unit {0})} (record { answer = result; card = tally self.new }) (posted_quotient setting.now.mode (held draft).sign n d (tally self.old)) }
+        ensures { (n d : ℕ) → StandsFor draft n d → ◌≡◌ {A = After (Unit {0})} (record { answer = result; card = tally self.new }) (posted_quotient setting.now.mode draft.sign n d (tally self.old)) }
     {
         let (sign, split) = draft.in_steps(self.step as u16);
         if self.posted >= 10_000 {
@@ -86,7 +86,7 @@ impl Card {
 
     /// Rounds a draft to decimal32 in the mode in force, and ends it. The flags that it raises stay up on the card.
     pub fn round(&mut self, draft: Draft, setting: &Setting) -> Quotient
-        ensures value { (n d : ℕ) → StandsFor (held draft) n d → outcome result ≡ under_sign (held draft).sign (divided decimal32 setting.now.mode (held draft).sign n d (held draft).ideal) }
+        ensures value { (n d : ℕ) → StandsFor draft n d → outcome result ≡ under_sign draft.sign (divided decimal32 setting.now.mode draft.sign n d draft.ideal) }
         ensures raised { tally self.new ≡ with_raised result.flags (tally self.old) }
     {
         let quotient = draft.round(setting.mode);

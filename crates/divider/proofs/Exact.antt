@@ -6,7 +6,8 @@ use Rattle.refusals.specs.Refusals.{at_no_place}
 use Rattle.rounding.specs.declared.sign.Sign.{Sign}
 use Rattle.decimal.specs.Numbers.{Datum, finite, infinite, quiet, signalling}
 use Rattle.quotient.specs.Quotients.{decimal32, quotient_top, quotient_bottom, divided}
-use Rattle.divider.specs.Drafts.{Begun, StandsFor, StandsForQuotient, begin_by, begin_numbers, draft_from, counted}
+use Rattle.divider.specs.Begun.{Begun}
+use Rattle.divider.specs.Drafts.{StandsFor, StandsForQuotient, begin_by, begin_numbers, draft_from, counted}
 use Rattle.divider.specs.Divisions.{under_sign}
 use Rattle.divider.specs.Exact.{DraftOf, finite_exact, exact_quotient, begun_quotient}
 

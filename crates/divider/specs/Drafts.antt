@@ -1,6 +1,5 @@
 -- Beginning a division: what is refused, and the draft that comes into being. Assumes nothing.
-use Rattle.std.specs.Prelude.{◌≡◌, ℕ, ◌+◌, ◌-◌, ◌*◌, ◌/◌, ◌%◌, ◌^◌, ◌<◌, ◌≤◌, Bool, false, cond, ℤ, pos, ◌+ℤ◌, Ok, Err, Result, ◌==◌, nat_le, nat_lt, unsigned_abs}
-use Rattle.std.specs.Result.{result_map_both}
+use Rattle.std.specs.Prelude.{◌≡◌, ℕ, ◌+◌, ◌-◌, ◌*◌, ◌/◌, ◌%◌, ◌^◌, ◌<◌, ◌≤◌, false, cond, ℤ, pos, ◌+ℤ◌, Ok, Err, Result, ◌==◌, nat_le, nat_lt, unsigned_abs}
 use Rattle.refusals.specs.declared.Fault.{Fault}
 use Rattle.refusals.specs.declared.Refusal.TheVariants.{ClaimUnderNine, OperandNotFinite, ZeroDivisor}
 use Rattle.refusals.specs.Refusals.{at_no_place}
@@ -10,7 +9,7 @@ use Rattle.decimal.specs.Numbers.{Datum, finite, infinite, quiet, signalling}
 use Rattle.quotient.specs.Drafts.{Drafted}
 use Rattle.quotient.specs.Quotients.{decimal32, quotient_top, quotient_bottom}
 use Rattle.quotient.specs.Search.{least}
-use Rattle.divider.specs.declared.draft.Draft.{Draft}
+use Rattle.divider.specs.Begun.{Begun}
 
 -- signs multiply
 abbrev pub product_sign : Sign → Sign → Sign
@@ -28,19 +27,6 @@ zeros_behind c = least 6 (λ a. nat_le 1000000 (c * 10 ^ a))
 
 abbrev pub seven_digits_of : ℕ → ℕ
 seven_digits_of c = c * 10 ^ zeros_behind c
-
--- what a draft holds, and whether a finishing call took it
-pub record Begun : Type 0 where
-  pub sign : Sign
-  pub widened : ℕ
-  pub divisor : ℕ
-  pub biased : ℕ
-  pub place : ℕ
-  pub ideal : ℕ
-  pub finished : Bool
-
-abbrev pub held : Draft → Begun
-held d = record { sign = d.sign; widened = d.widened; divisor = d.divisor; biased = d.biased; place = d.place; ideal = d.ideal; finished = d.finished }
 
 -- A dividend below the divisor is widened by eight zeros, any other by seven.
 abbrev pub widening : ℕ → ℕ → ℕ
@@ -79,9 +65,6 @@ begin_numbers reciprocal (signalling s p) x = Err (at_no_place OperandNotFinite)
 -- the source's claim is judged first
 abbrev pub begin_by : ℕ → (ℕ → ℕ) → Datum → Datum → Result Begun Fault
 begin_by claim reciprocal y x = cond (nat_lt claim 9) (Err (at_no_place ClaimUnderNine)) (begin_numbers reciprocal y x)
-
-abbrev pub held_result : Result Draft Fault → Result Begun Fault
-held_result r = result_map_both held (λ e. e) r
 
 -- A draft stands for the fraction n / d, in units of the least exponent: its quotient has the leading digits of n / d.
 abbrev pub StandsFor : Begun → ℕ → ℕ → Type 0

@@ -7,7 +7,8 @@ use Rattle.rounding.specs.declared.sign.Sign.{Sign}
 use Rattle.decimal.specs.Numbers.{Datum, finite, infinite, quiet, signalling}
 use Rattle.rounding.specs.declared.mode.Mode.{Mode}
 use Rattle.quotient.specs.Quotients.{decimal32, quotient_top, quotient_bottom, divided}
-use Rattle.divider.specs.Drafts.{Begun, StandsFor, product_sign, counted}
+use Rattle.divider.specs.Begun.{Begun}
+use Rattle.divider.specs.Drafts.{StandsFor, product_sign, counted}
 use Rattle.divider.specs.Divisions.{number_quotient, under_sign}
 
 -- an exact value: top / bottom under a sign

@@ -1,3 +1,5 @@
+pub mod Begun
+pub mod Held
 pub mod Drafts
 pub mod Divisions
 pub mod Exact

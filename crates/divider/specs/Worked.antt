@@ -8,8 +8,9 @@ use Rattle.decimal.specs.Worked.{WorkedWords}
 use Rattle.reciprocal.specs.Sources.{table_reciprocal}
 use Rattle.reciprocal.specs.Layers.{layered}
 use Rattle.reciprocal.specs.Worked.{WorkedReciprocals}
+use Rattle.divider.specs.Begun.{Begun}
 use Rattle.divider.specs.declared.outcome.QuotientWord.{QuotientWord}
-use Rattle.divider.specs.Drafts.{Begun, draft_from}
+use Rattle.divider.specs.Drafts.{draft_from}
 use Rattle.divider.specs.Divisions.{Outcome, number_quotient}
 
 abbrev raising : Bool → Bool → Bool → Flags

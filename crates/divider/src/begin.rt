@@ -3,7 +3,7 @@ ghost use Rattle.std.specs.Prelude.{◌≡◌, ◌+◌, ◌-◌, ◌*◌, ◌/�
 ghost use Rattle.decimal.specs.Numbers.{datum};
 ghost use Rattle.quotient.specs.Quotients.{decimal32, quotient_top, quotient_bottom};
 ghost use Rattle.reciprocal.specs.Sources.{Approximates};
-ghost use Rattle.divider.specs.Drafts.{StandsFor, StandsForQuotient, begin_by, counted, draft_by, draft_from, held, held_result, product_sign, widening};
+ghost use Rattle.divider.specs.Drafts.{StandsFor, StandsForQuotient, begin_by, counted, draft_by, draft_from, product_sign, widening};
 
 use crate::draft::Draft;
 use crate::nine::NineDigits;
@@ -59,7 +59,7 @@ fn widen(dividend: u64, divisor: u64, reciprocal: u64) -> Widened
 fn assemble(sign: Sign, y: Normal, x: Normal, reciprocal: u64) -> Draft
     requires nonzero { 0 < x.digits }
     requires near { Approximates 9 x.digits reciprocal }
-    ensures { held result ≡ draft_by sign y.digits y.zeros y.exponent x.digits x.zeros x.exponent reciprocal }
+    ensures { result ≡ draft_by sign y.digits y.zeros y.exponent x.digits x.zeros x.exponent reciprocal }
 {
     let divisor = x.digits as u64;
     let widened = widen(y.digits as u64, divisor, reciprocal);
@@ -78,8 +78,8 @@ fn assemble(sign: Sign, y: Normal, x: Normal, reciprocal: u64) -> Draft
 // The draft of two finite numbers.
 pub(crate) fn begin_finite<S: Source>(source: &NineDigits<S>, y: Finite, x: Finite) -> Draft
     requires { 0 < x.coefficient }
-    ensures held { held result ≡ draft_from (S.Source.reciprocal source.now.source.now) y.sign y.coefficient (counted y.exponent) x.sign x.coefficient (counted x.exponent) }
-    ensures stands { StandsFor (held result) (quotient_top decimal32 y.coefficient (counted y.exponent)) (quotient_bottom x.coefficient (counted x.exponent)) }
+    ensures held { result ≡ draft_from (S.Source.reciprocal source.now.source.now) y.sign y.coefficient (counted y.exponent) x.sign x.coefficient (counted x.exponent) }
+    ensures stands { StandsFor result (quotient_top decimal32 y.coefficient (counted y.exponent)) (quotient_bottom x.coefficient (counted x.exponent)) }
 {
     let divisor = Normal::of(x);
     let reciprocal = source.reciprocal(divisor.digits);
@@ -95,8 +95,8 @@ impl Draft {
     /// Begins the division of two numbers with a reciprocal of `source`. Refuses a source that claims under nine, then an operand
     /// that is not finite, then a zero divisor. The draft stands for the exact quotient.
     pub fn begin<S: Source>(source: &S, dividend: &Number, divisor: &Number) -> Result<Draft, Fault>
-        ensures held { held_result result ≡ begin_by (S.Source.claim source.now) (S.Source.reciprocal source.now) (datum dividend.now) (datum divisor.now) }
-        ensures stands { IfOk result (λ d. StandsForQuotient (held d) (datum dividend.now) (datum divisor.now)) }
+        ensures held { result ≡ begin_by (S.Source.claim source.now) (S.Source.reciprocal source.now) (datum dividend.now) (datum divisor.now) }
+        ensures stands { IfOk result (λ d. StandsForQuotient d (datum dividend.now) (datum divisor.now)) }
     {
         let source = NineDigits::of(source)?;
         let (Number::Finite(y), Number::Finite(x)) = (*dividend, *divisor) else {

@@ -4,7 +4,7 @@ ghost use Rattle.decimal.specs.Numbers.{datum};
 ghost use Rattle.quotient.specs.Drafts.{InRange};
 ghost use Rattle.quotient.specs.Quotients.{decimal32, divided};
 ghost use Rattle.divider.specs.Divisions.{outcome, signed_magnitude, under_sign};
-ghost use Rattle.divider.specs.Drafts.{StandsFor, held};
+ghost use Rattle.divider.specs.Drafts.{StandsFor};
 
 use crate::draft::Draft;
 use crate::outcome::Quotient;
@@ -34,7 +34,7 @@ impl Draft {
     /// The quotient of the widened dividend by the divisor, without its fraction: the biased quotient, or one less where that is too
     /// large.
     pub fn corrected(&self) -> u64
-        ensures { result ≡ (held self.now).widened / (held self.now).divisor }
+        ensures { result ≡ self.now.widened / self.now.divisor }
     {
         if self.biased * self.divisor > self.widened {
             self.biased - 1
@@ -45,28 +45,29 @@ impl Draft {
 
     /// Is anything left beside the corrected quotient?
     pub fn leaves_remainder(&self) -> bool
-        ensures { result ≡ nat_lt 0 ((held self.now).widened % (held self.now).divisor) }
+        ensures { result ≡ nat_lt 0 (self.now.widened % self.now.divisor) }
     {
         self.corrected() * self.divisor < self.widened
     }
 
     // The leading digits of the quotient.
     pub(crate) fn leading(&self) -> Leading
-        ensures digits { result.digits ≡ (held self.now).widened / (held self.now).divisor }
-        ensures left { result.left ≡ nat_lt 0 ((held self.now).widened % (held self.now).divisor) }
-        ensures place { result.place ≡ (held self.now).place }
+        ensures digits { result.digits ≡ self.now.widened / self.now.divisor }
+        ensures left { result.left ≡ nat_lt 0 (self.now.widened % self.now.divisor) }
+        ensures place { result.place ≡ self.now.place }
     {
+        let place = self.place;
         Leading {
             digits: self.corrected() as u32,
             left: self.leaves_remainder(),
-            place: self.place,
+            place,
         }
     }
 
     /// Rounds the quotient to decimal32, once, and ends the draft. Whatever fraction n / d the draft stands for, in units of the least
     /// exponent, the answer is the definition's at n / d.
     pub fn round(mut self, mode: Mode) -> Quotient
-        ensures { (n d : ℕ) → StandsFor (held self) n d → outcome result ≡ under_sign self.sign (divided decimal32 mode self.sign n d self.ideal) }
+        ensures { (n d : ℕ) → StandsFor self n d → outcome result ≡ under_sign self.sign (divided decimal32 mode self.sign n d self.ideal) }
     {
         self.finished = true;
         let rounded = self.leading().round(mode, self.sign, self.ideal);

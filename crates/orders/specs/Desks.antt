@@ -3,7 +3,6 @@ use Rattle.std.specs.Prelude.{◌≡◌, ℕ, ◌+◌, ◌<◌, ◌≤◌, List,
 use Rattle.refusals.specs.declared.Fault.{Fault}
 use Rattle.rounding.specs.Modes.{mode_numbered}
 use Rattle.divider.specs.declared.draft.Draft.{Draft}
-use Rattle.divider.specs.Drafts.{held}
 use Rattle.divider.specs.Exact.{DraftOf}
 use Rattle.card.specs.Tallies.{tally}
 use Rattle.runs.specs.Records.{Operands}
@@ -20,7 +19,7 @@ abbrev pub Holds : Option Draft → Option Operands → Type 0
 Holds None None = Unit {0}
 Holds None (Some o) = ⊥
 Holds (Some d) None = ⊥
-Holds (Some d) (Some o) = DraftOf (held d) o.0 o.1
+Holds (Some d) (Some o) = DraftOf d o.0 o.1
 
 abbrev pub Hold : List (Option Draft) → List (Option Operands) → Type 0
 Hold [] [] = Unit {0}

@@ -3,7 +3,8 @@ use Rattle.std.proofs.Common.{◌≡◌, ℕ, Ok, Err, Result, sym, ap, ◌∙�
 use Rattle.refusals.specs.declared.Fault.{Fault}
 use Rattle.rounding.specs.declared.mode.Mode.{Mode}
 use Rattle.decimal.specs.Numbers.{Datum}
-use Rattle.divider.specs.Drafts.{Begun, StandsFor, StandsForQuotient, begin_by}
+use Rattle.divider.specs.Begun.{Begun}
+use Rattle.divider.specs.Drafts.{StandsFor, StandsForQuotient, begin_by}
 use Rattle.divider.specs.Exact.{DraftOf}
 use Rattle.divider.proofs.Exact.{draft_of, begun_exact, refused_alike}
 use Rattle.card.specs.Replies.{posted_exact, reply, turned_away}
