@@ -1,7 +1,7 @@
 -- A table by the first digits of a divisor approximates, at every divisor of seven digits.
 -- Assumes nothing.
-use Rattle.std.specs.Prelude.{◌≡◌, ℕ, zero, suc, ◌+◌, ◌-◌, ◌*◌, ◌/◌, ◌%◌, ◌^◌, ◌<◌, ◌≤◌, refl}
-use Rattle.std.proofs.Common.{ap, ⊎_elim, arith, mul-le-mul, mul-le-mul_left, mul-le-mul_right, div-mul-le_self}
+use Rattle.std.specs.Prelude.{◌≡◌, ℕ, ◌+◌, ◌-◌, ◌*◌, ◌/◌, ◌%◌, ◌^◌, ◌<◌, ◌≤◌, refl}
+use Rattle.std.proofs.Common.{ap, subst, ⊎_elim, arith, mul-le-mul, mul-le-mul_left, mul-le-mul_right, div-mul-le_self}
 use Rattle.std.proofs.Math.Nat.{le_of_mul-le-mul_left, lt_of_mul-lt-mul_left, lt-div-mul-add, div-le_self}
 use Rattle.std.proofs.lemmas.Bool.{cases_lt}
 use Rattle.reciprocal.specs.Sources.{Approximates, entry, factor, table_reciprocal}
@@ -103,41 +103,43 @@ close {B} {Q} {M} {a = a} {c = c} {r} {X} {D} p =
 
 -- what the powers are at a count k of digits, and how they part a divisor
 pub record Parted (k D : ℕ) : Type 0 where
-  pub room : 10 ^ (4 * k) * 10 ^ (2 * k) ≤ 10 ^ 18
-  scale : 10 ^ k * 10 ^ k * 10 ^ (7 - 2 * k) ≡ 10000000
-  fourth : 10 ^ (4 * k) ≡ 10 ^ k * 10 ^ k * (10 ^ k * 10 ^ k)
-  second : 10 ^ (2 * k) ≡ 10 ^ k * 10 ^ k
-  whole : 10 ^ (2 * k - 3 + 8) ≡ 100000 * (10 ^ k * 10 ^ k)
-  wide : 100 ≤ 10 ^ k
-  narrow : 10 ^ k ≤ 1000
-  ten : 10 ^ k ≡ 10 * 10 ^ (k - 1)
-  pub least : 10 ^ (k - 1) ≤ D / 10 ^ (7 - k)
+  pub scale : 10 ^ k * 10 ^ k * 10 ^ (7 - 2 * k) ≡ 10000000
+  pub fourth : 10 ^ (4 * k) ≡ 10 ^ k * 10 ^ k * (10 ^ k * 10 ^ k)
+  pub second : 10 ^ (2 * k) ≡ 10 ^ k * 10 ^ k
+  pub whole : 10 ^ (2 * k - 3 + 8) ≡ 100000 * (10 ^ k * 10 ^ k)
+  pub wide : 100 ≤ 10 ^ k
+  pub narrow : 10 ^ k ≤ 1000
+  pub least : 10 ^ k ≤ 10 * (D / 10 ^ (7 - k))
   pub most : D / 10 ^ (7 - k) < 10 ^ k
   pub next : D % 10 ^ (7 - k) / 10 ^ (7 - 2 * k) < 10 ^ k
-  last : D % 10 ^ (7 - 2 * k) < 10 ^ (7 - 2 * k)
-  d_is : D ≡ 10 ^ k * 10 ^ (7 - 2 * k) * (D / 10 ^ (7 - k)) + 10 ^ (7 - 2 * k) * (D % 10 ^ (7 - k) / 10 ^ (7 - 2 * k)) + D % 10 ^ (7 - 2 * k)
+  pub last : D % 10 ^ (7 - 2 * k) < 10 ^ (7 - 2 * k)
+  pub d_is : D ≡ 10 ^ k * 10 ^ (7 - 2 * k) * (D / 10 ^ (7 - k)) + 10 ^ (7 - 2 * k) * (D % 10 ^ (7 - k) / 10 ^ (7 - 2 * k)) + D % 10 ^ (7 - 2 * k)
 
 -- the two counts of digits
 by_width : (Q : ℕ → Type 0) → Q 2 → Q 3 → (k : ℕ) → (2 ≤ k) × (k ≤ 3) → Q k
-by_width Q a b zero w = absurd (omega (arith, w))
-by_width Q a b (suc zero) w = absurd (omega (arith, w))
-by_width Q a b (suc (suc zero)) w = a
-by_width Q a b (suc (suc (suc zero))) w = b
-by_width Q a b (suc (suc (suc (suc k)))) w = absurd (omega (arith, w))
+by_width Q two three k w = ⊎_elim (λ h. let e : 2 ≡ k = omega (arith, w) in subst Q e two) (λ h. let e : 3 ≡ k = omega (arith, w) in subst Q e three) (cases_lt k 3)
 
 pub parted : (k D : ℕ) → (2 ≤ k) × (k ≤ 3) → 1000000 ≤ D → D < 10000000 → Parted k D
-parted k D w lo hi = by_width (λ k. Parted k D) (omega arith) (omega arith) k w
+parted k D w lo hi = by_width (λ n. Parted n D) (omega arith) (omega arith) k w
 
--- the product of entry and factor fits a word
-pub room : (k D : ℕ) → Parted k D → entry k (D / 10 ^ (7 - k)) * factor k D ≤ 10 ^ 18
-room k D q =
-    let M : ℕ = D / 10 ^ (7 - k) in
-    let f : factor k D ≤ 10 ^ (2 * k) = omega (arith, q.second, mul-le-mul_left (10 ^ k) q.most) in
-    omega (arith, q.room, mul-le-mul (div-le_self (10 ^ (4 * k)) ((10 * M + 5) * (10 * M + 5))) f)
+-- the numbers of a look-up fit a word, U, V and B being its powers
+pub record Fitting (k D U V B : ℕ) : Type 0 where
+  pub first : (10 ^ (k - 1) ≤ D / U) × (D / U < 10 ^ k)
+  pub next : D % U / V < B
+  pub room : entry k (D / U) * (B * (D / U) + (B - 1) - D % U / V) ≤ 10 ^ 18
 
-pub approximates : (k D : ℕ) → (2 ≤ k) × (k ≤ 3) → 1000000 ≤ D → D < 10000000 → Approximates (2 * k - 3) D (table_reciprocal k D)
-approximates k D w lo hi =
+pub fitting : (k D : ℕ) → (2 ≤ k) × (k ≤ 3) → 1000000 ≤ D → D < 10000000 → Fitting k D (10 ^ (7 - k)) (10 ^ (7 - 2 * k)) (10 ^ k)
+fitting k D w lo hi =
     let q = parted k D w lo hi in
+    let M : ℕ = D / 10 ^ (7 - k) in
+    let ten = by_width (λ n. 10 ^ n ≡ 10 * 10 ^ (n - 1)) (omega arith) (omega arith) k w in
+    let most = by_width (λ n. 10 ^ (4 * n) * 10 ^ (2 * n) ≤ 10 ^ 18) (omega arith) (omega arith) k w in
+    let c : entry k M ≤ 10 ^ (4 * k) = div-le_self (10 ^ (4 * k)) ((10 * M + 5) * (10 * M + 5)) in
+    let x : factor k D ≤ 10 ^ (2 * k) = omega (arith, q.second, mul-le-mul_left (10 ^ k) q.most) in
+    record { first = omega (arith, q.least, ten, q.most); next = q.next; room = omega (arith, most, mul-le-mul c x) }
+
+pub approximates : (k D : ℕ) → Parted k D → Approximates (2 * k - 3) D (table_reciprocal k D)
+approximates k D q =
     let B : ℕ = 10 ^ k in
     let M : ℕ = D / 10 ^ (7 - k) in
     let u : ℕ = D % 10 ^ (7 - k) / 10 ^ (7 - 2 * k) in
@@ -152,7 +154,7 @@ approximates k D w lo hi =
       scale = q.scale;
       wide = q.wide;
       narrow = q.narrow;
-      least = omega (arith, q.least, q.ten);
+      least = q.least;
       most = q.most;
       rest = omega (arith, q.next);
       last = q.last;

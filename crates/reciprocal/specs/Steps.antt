@@ -77,6 +77,7 @@ record Sizes (G : ℕ) : Type 0 where
   full : 10 ^ (G + 8) ≡ 10 ^ (G + 8 - places G) * 10 ^ places G
   next : 10 ^ (finer G + 8) ≡ 1000000 * 10 ^ places G
   wide : 1210000000 ≤ 14 * (10 ^ (G + 2) * 10 ^ (G + 8 - places G))
+  all : 10 ^ places G * 10 ^ (G + 8 - places G) ≤ 10 ^ 14
   one : 10 ^ places G ≤ 10 ^ 11
   room : 10 ^ (G + 2) * 10 ^ places G ≤ 10 ^ 19
 
@@ -94,12 +95,17 @@ by_claim Q a b c d e f (suc (suc (suc (suc (suc (suc (suc n))))))) l h = absurd 
 sizes : (G : ℕ) → 1 ≤ G → G ≤ 6 → Sizes G
 sizes = by_claim Sizes (omega arith) (omega arith) (omega arith) (omega arith) (omega arith) (omega arith)
 
+-- the numbers of a step fit a word, K and P being its powers
+pub record Fitting (D r K P : ℕ) : Type 0 where
+  pub product : D * r < 10 ^ 14
+  pub one : P ≤ 10 ^ 11
+  pub kept : D * r / K < P
+  pub room : r * (2 * P - 1 - D * r / K) < 10 ^ 19
+
 -- what a step over a claim of at most six gives
 pub record Refines (G D r : ℕ) : Type 0 where
   pub near : Approximates (finer G) D (refined G D r)
-  pub one : 10 ^ places G ≤ 10 ^ 11
-  pub kept : D * r / 10 ^ (G + 8 - places G) < 10 ^ places G
-  pub room : r * gap G D r < 10 ^ 19
+  pub fitting : Fitting D r (10 ^ (G + 8 - places G)) (10 ^ places G)
 
 pub refines : (G D r : ℕ) → 1 ≤ G → G ≤ 6 → 1000000 ≤ D → D < 10000000 → Approximates G D r → Refines G D r
 refines G D r g h lo hi k =
@@ -131,22 +137,8 @@ refines G D r g h lo hi k =
     in
     record {
       near = record { below = rw z.next (short l); near = rw z.next (omega (arith, close l, short l)) };
-      one = z.one;
-      kept = kept;
-      room = omega (arith, fits l, z.room);
+      fitting = record { product = omega (arith, m, z.all); one = z.one; kept = kept; room = omega (arith, fits l, z.room) };
     }
-
--- the same in the words of code, where m, K and P are results
-pub record Computes (D r K P : ℕ) : Type 0 where
-  pub one : P ≤ 10 ^ 11
-  pub kept : D * r / K < P
-  pub room : r * (2 * P - 1 - D * r / K) < 10 ^ 19
-
-pub computes : (G D r m K P : ℕ) → 1 ≤ G → G ≤ 6 → 1000000 ≤ D → D < 10000000 → Approximates G D r → m ≡ finer G
-    → K ≡ 10 ^ (G + 8 - (m + 2)) → P ≡ 10 ^ (m + 2) → Computes D r K P
-computes G D r m K P g h lo hi k em eK eP =
-    let f = refines G D r g h lo hi k in
-    rw (eK, eP, em) (record { one = f.one; kept = f.kept; room = f.room })
 
 -- the first digits of an answer: E is ten to the count of the others, c the cut answer
 shorter : (E N D r c : ℕ) → 1 ≤ E → c * E ≤ r → r < c * E + E → r * D < E * N → 2 * (E * N) < 11 * D + 2 * (r * D)
@@ -168,9 +160,11 @@ cuts G D r k =
     let s = shorter E N D r (r / E) pos (div-mul-le_self r E) (lt-div-mul-add pos) b n in
     record { below = s.0; near = omega (arith, s.0, s.1) }
 
--- a layer over any claim
+-- a layer's step, over any claim
+pub steps : (G D r : ℕ) → 1 ≤ G → 1000000 ≤ D → D < 10000000 → Approximates G D r → Refines (min G 6) D (cut G r)
+steps G D r g lo hi k = refines (min G 6) D (cut G r) (omega arith) (omega arith) lo hi (cuts G D r k)
+
 pub approximates : (G D r : ℕ) → 1 ≤ G → 1000000 ≤ D → D < 10000000 → Approximates G D r → Approximates (finer G) D (layered G D r)
 approximates G D r g lo hi k =
     let same : finer (min G 6) ≡ finer G = omega arith in
-    subst (λ (n : ℕ). Approximates n D (layered G D r)) same
-    (refines (min G 6) D (cut G r) (omega arith) (omega arith) lo hi (cuts G D r k)).near
+    subst (λ (n : ℕ). Approximates n D (layered G D r)) same (steps G D r g lo hi k).near

@@ -17,22 +17,6 @@ pub struct Newton<S>(pub S);
 /// Two layers over the three-digit table, which claim nine digits.
 pub const TWO_LAYERS: Newton<Newton<ThreeDigitTable>> = Newton(Newton(ThreeDigitTable));
 
-// The step from an answer with a claim of at most six.
-fn refine(claim: u32, divisor: u64, answer: u64) -> u64
-    requires some { 1 ≤ claim }
-    requires six { claim ≤ 6 }
-    requires least { 1000000 ≤ divisor }
-    requires most { divisor < 10000000 }
-    requires near { Approximates claim divisor answer }
-    ensures { result ≡ refined claim divisor answer }
-{
-    let places = (2 * claim).min(9) + 2;
-    let one = power_of_ten(places);
-    let product = divisor * answer / power_of_ten(claim + 8 - places);
-    let gap = 2 * one - 1 - product;
-    answer * gap / power_of_ten(claim + 2)
-}
-
 impl<S: Source> Source for Newton<S> {
     ghost claim = { λ s. finer (S.Source.claim s.0) };
 
@@ -50,6 +34,12 @@ impl<S: Source> Source for Newton<S> {
         let answer = self.0.ask(divisor)?;
         let claim = self.0.claimed();
         let cut = answer / power_of_ten(claim.saturating_sub(6));
-        Ok(refine(claim.min(6), divisor as u64, cut))
+        let claim = claim.min(6);
+        let places = (2 * claim).min(9) + 2;
+        let one = power_of_ten(places);
+        let unit = power_of_ten(claim + 8 - places);
+        let product = divisor as u64 * cut / unit;
+        let gap = 2 * one - 1 - product;
+        Ok(cut * gap / power_of_ten(claim + 2))
     }
 }

@@ -36,7 +36,7 @@ impl<T: DigitTable> Source for T {
 
     ghost claims = { omega (arith, T.width) };
 
-    ghost approximates = { λ s d lo hi. Leading.approximates T.DIGITS d T.width lo hi };
+    ghost approximates = { λ s d lo hi. Leading.approximates T.DIGITS d (Leading.parted T.DIGITS d T.width lo hi) };
 
     fn claimed(&self) -> u32 {
         2 * T::DIGITS - 3
@@ -44,8 +44,9 @@ impl<T: DigitTable> Source for T {
 
     fn ask(&self, divisor: u32) -> Result<u64, Fault> {
         let divisor = seven_digits(divisor)?;
-        let first = divisor / power_of_ten(7 - T::DIGITS);
-        let next = divisor % power_of_ten(7 - T::DIGITS) / power_of_ten(7 - 2 * T::DIGITS);
+        let unit = power_of_ten(7 - T::DIGITS);
+        let first = divisor / unit;
+        let next = divisor % unit / power_of_ten(7 - 2 * T::DIGITS);
         let scale = power_of_ten(T::DIGITS);
         let factor = scale * first + (scale - 1) - next;
         Ok(entry_of::<T>(first) * factor / power_of_ten(2 * T::DIGITS))
