@@ -32,6 +32,7 @@ impl<S: Source> Source for Newton<S> {
 
     fn ask(&self, divisor: u32) -> Result<u64, Fault> {
         let answer = self.0.ask(divisor)?;
+        // The step goes from a claim of at most six.
         let claim = self.0.claimed();
         let cut = answer / power_of_ten(claim.saturating_sub(6));
         let claim = claim.min(6);

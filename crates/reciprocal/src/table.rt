@@ -9,19 +9,22 @@ use crate::source::{Source, seven_digits};
 use crate::tables::{THREE_DIGIT_ENTRIES, TWO_DIGIT_ENTRIES};
 use refusals::Fault;
 
-/// A table by the first two or three digits of the divisor, with an entry for each number that they can be.
+/// A table by the first digits of the divisor, two or three of them.
 pub trait DigitTable {
+    // How many digits the table goes by.
     const DIGITS: u32;
 
     ghost DIGITS: { ℕ };
 
+    /// The entries, one for each number of so many digits.
     fn entries() -> &'static [u32]
         ensures { result.now ≡ entries DIGITS };
 
     ghost width: { (2 ≤ DIGITS) × (DIGITS ≤ 3) };
 }
 
-// The entry for the divisors that begin with these digits.
+// The entry for the divisors that begin with the digits `first`.
+#[tactic(auto, using(crate::proofs::Entries::entry_lemmas))]
 fn entry_of<T: DigitTable>(first: u64) -> u64
     requires { (10 ^ (T.DIGITS - 1) ≤ first) × (first < 10 ^ T.DIGITS) }
     ensures { result ≡ entry T.DIGITS first }
@@ -29,6 +32,7 @@ fn entry_of<T: DigitTable>(first: u64) -> u64
     T::entries()[(first - power_of_ten(T::DIGITS - 1)) as usize] as u64
 }
 
+// Every table is a source: it claims one digit by two and three by three.
 impl<T: DigitTable> Source for T {
     ghost claim = { λ s. 2 * T.DIGITS - 3 };
 
