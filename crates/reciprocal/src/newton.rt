@@ -1,7 +1,5 @@
 // Newton's step over any source.
-ghost use Rattle.std.specs.Prelude.{◌≡◌, ◌<◌, ◌≤◌};
-ghost use Rattle.reciprocal.specs.Sources.{Approximates};
-ghost use Rattle.reciprocal.specs.Layers.{finer, refined, layered};
+ghost use Rattle.reciprocal.specs.Layers.{finer, layered};
 ghost use Rattle.reciprocal.specs.Steps;
 ghost use Rattle.std.proofs.Common.{rules};
 
@@ -32,8 +30,8 @@ impl<S: Source> Source for Newton<S> {
 
     fn ask(&self, divisor: u32) -> Result<u64, Fault> {
         let answer = self.0.ask(divisor)?;
-        // The step goes from a claim of at most six.
         let claim = self.0.claimed();
+        // The step goes from at most six digits.
         let cut = answer / power_of_ten(claim.saturating_sub(6));
         let claim = claim.min(6);
         let places = (2 * claim).min(9) + 2;

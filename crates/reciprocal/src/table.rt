@@ -20,6 +20,7 @@ pub trait DigitTable {
     fn entries() -> &'static [u32]
         ensures { result.now ≡ entries DIGITS };
 
+    // A table by two or three digits approximates.
     ghost width: { (2 ≤ DIGITS) × (DIGITS ≤ 3) };
 }
 
