@@ -1,5 +1,5 @@
 -- An exact value beside its floor, its ceiling and what the modes make of it. Assumes nothing.
-use Rattle.std.proofs.Common.{◌≡◌, ℕ, ◌+◌, ◌*◌, ◌/◌, ◌<◌, ◌≤◌, Bool, true, false, cond, ℤ, pos, ◌+ℤ◌, ◌-ℤ◌, ◌*ℤ◌, nat_abs, ◌≤ℤ◌, refl, ap, ◌∙◌, subst, mul-le-mul_right, arith}
+use Rattle.std.proofs.Common.{◌≡◌, ℕ, ◌+◌, ◌*◌, ◌/◌, ◌<◌, ◌≤◌, Bool, true, false, cond, not, ℤ, pos, ◌+ℤ◌, ◌-ℤ◌, ◌*ℤ◌, nat_abs, ◌≤ℤ◌, refl, ap, ◌∙◌, subst, mul-le-mul_right, arith}
 use borrow.Author.Differences.{up, down, product_is}
 use Rattle.std.proofs.lemmas.Int.{ints}
 use Rattle.rounding.specs.declared.sign.Sign.{Sign}
@@ -8,7 +8,7 @@ use Rattle.rounding.specs.declared.mode.Mode.{Mode}
 use Rattle.rounding.specs.declared.mode.Mode.TheVariants.{NearestEven, NearestZero, NearestAway, Ceiling, Floor, TowardZero, AwayFromZero}
 use Rattle.rounding.specs.declared.mode.Position.{Position}
 use Rattle.rounding.specs.declared.mode.Position.TheVariants.{Whole, Below, Middle, Above}
-use Rattle.rounding.specs.Rounding.{position, is_whole, is_odd, goes_up, raised}
+use Rattle.rounding.specs.Rounding.{by_sign, position, is_whole, is_odd, goes_up, raised}
 use Rattle.rounding.specs.Modes.{signed}
 use Rattle.rounding.proofs.Meant.{meant}
 use Rattle.rounding.proofs.Alone.{alone}
@@ -50,57 +50,46 @@ pub scale : (a : ℤ) (k : ℕ) → (up (a *ℤ pos k) ≡ up a * k) × (down (a
 scale a k = omega (arith, product_is a (pos k))
 
 -- where a value is whole, every mode stays
-stays : (m : Mode) (s : Sign) (odd : Bool) → goes_up m s odd Whole ≡ false
-stays NearestEven s odd = refl
-stays NearestZero s odd = refl
-stays NearestAway s odd = refl
-stays Ceiling Plus odd = refl
-stays Ceiling Minus odd = refl
-stays Floor Plus odd = refl
-stays Floor Minus odd = refl
-stays TowardZero s odd = refl
-stays AwayFromZero s odd = refl
+stays : (m : Mode) (s : Sign) (odd : Bool) (p : Position) → is_whole p ≡ true → goes_up m s odd p ≡ false
+stays NearestEven s odd Whole e = refl
+stays NearestZero s odd Whole e = refl
+stays NearestAway s odd Whole e = refl
+stays Ceiling Plus odd Whole e = refl
+stays Ceiling Minus odd Whole e = refl
+stays Floor Plus odd Whole e = refl
+stays Floor Minus odd Whole e = refl
+stays TowardZero s odd Whole e = refl
+stays AwayFromZero s odd Whole e = refl
+stays m s odd Below e = cc
+stays m s odd Middle e = cc
+stays m s odd Above e = cc
 
 -- the whole number under a magnitude or the next one, under the sign, lies above the floor by this much
-abbrev AboveFloor : Sign → Bool → Position → ℕ → ℤ → Type 0
-AboveFloor s odd p k z = (u : ℕ) × (z ≡ signed s (raised (goes_up Floor s odd p) k) +ℤ pos u) × (u ≤ cond (is_whole p) 0 1)
+abbrev AboveFloor : Sign → Bool → ℕ → ℤ → Type 0
+AboveFloor s whole k z = (u : ℕ) × (z ≡ signed s (raised (by_sign s false (not whole)) k) +ℤ pos u) × (u ≤ cond whole 0 1)
 
-above : (s : Sign) (odd : Bool) (p : Position) (k : ℕ) (b : Bool) → (p ≡ Whole → b ≡ false) → AboveFloor s odd p k (signed s (raised b k))
-above Plus odd Whole k true h = let z : ◌≡◌ {A = ℕ} 0 1 = cc (h refl) in absurd (omega arith)
-above Plus odd Whole k false h = (0, omega (arith, ints), omega arith)
-above Plus odd Below k true h = (1, omega (arith, ints), omega arith)
-above Plus odd Below k false h = (0, omega (arith, ints), omega arith)
-above Plus odd Middle k true h = (1, omega (arith, ints), omega arith)
-above Plus odd Middle k false h = (0, omega (arith, ints), omega arith)
-above Plus odd Above k true h = (1, omega (arith, ints), omega arith)
-above Plus odd Above k false h = (0, omega (arith, ints), omega arith)
-above Minus odd Whole k true h = let z : ◌≡◌ {A = ℕ} 0 1 = cc (h refl) in absurd (omega arith)
-above Minus odd Whole k false h = (0, omega (arith, ints), omega arith)
-above Minus odd Below k true h = (0, omega (arith, ints), omega arith)
-above Minus odd Below k false h = (1, omega (arith, ints), omega arith)
-above Minus odd Middle k true h = (0, omega (arith, ints), omega arith)
-above Minus odd Middle k false h = (1, omega (arith, ints), omega arith)
-above Minus odd Above k true h = (0, omega (arith, ints), omega arith)
-above Minus odd Above k false h = (1, omega (arith, ints), omega arith)
+above : (s : Sign) (whole : Bool) (k : ℕ) (up : Bool) → (whole ≡ true → up ≡ false) → AboveFloor s whole k (signed s (raised up k))
+above s true k true h = cc (h refl)
+above Plus true k false h = (0, omega (arith, ints), omega arith)
+above Plus false k true h = (1, omega (arith, ints), omega arith)
+above Plus false k false h = (0, omega (arith, ints), omega arith)
+above Minus true k false h = (0, omega (arith, ints), omega arith)
+above Minus false k true h = (0, omega (arith, ints), omega arith)
+above Minus false k false h = (1, omega (arith, ints), omega arith)
 
 rises : (m : Mode) (q : Exact) → (u : ℕ) × (value m q ≡ value Floor q +ℤ pos u) × (u ≤ gap q)
 rises m q =
     let odd = is_odd (q.top / q.bottom) in
-    let p = position q.top q.bottom in
-    above q.sign odd p (q.top / q.bottom) (goes_up m q.sign odd p) (λ e. ap (goes_up m q.sign odd) e ∙ stays m q.sign odd)
+    above q.sign (is_whole_number q) (q.top / q.bottom) (goes_up m q.sign odd (position q.top q.bottom)) (stays m q.sign odd (position q.top q.bottom))
 
 pub ceiling_gap : (q : Exact) → value Ceiling q ≡ value Floor q +ℤ pos (gap q)
-ceiling_gap q = by q.sign (is_odd (q.top / q.bottom)) (position q.top q.bottom) (q.top / q.bottom)
+ceiling_gap q = by q.sign (is_whole_number q) (q.top / q.bottom)
   where
-    by : (s : Sign) (odd : Bool) (p : Position) (k : ℕ) → signed s (raised (goes_up Ceiling s odd p) k) ≡ signed s (raised (goes_up Floor s odd p) k) +ℤ pos (cond (is_whole p) 0 1)
-    by Plus odd Whole k = omega (arith, ints)
-    by Plus odd Below k = refl
-    by Plus odd Middle k = refl
-    by Plus odd Above k = refl
-    by Minus odd Whole k = omega (arith, ints)
-    by Minus odd Below k = omega (arith, ints)
-    by Minus odd Middle k = omega (arith, ints)
-    by Minus odd Above k = omega (arith, ints)
+    by : (s : Sign) (whole : Bool) (k : ℕ) → signed s (raised (by_sign s (not whole) false) k) ≡ signed s (raised (by_sign s false (not whole)) k) +ℤ pos (cond whole 0 1)
+    by Plus true k = omega (arith, ints)
+    by Plus false k = refl
+    by Minus true k = omega (arith, ints)
+    by Minus false k = omega (arith, ints)
 
 -- a whole value is its floor
 pub rest_gap : (q : Exact) → 0 < q.bottom → rest q ≤ gap q * q.bottom
@@ -119,10 +108,10 @@ off : (m : Mode) (q : Exact) → 0 < q.bottom → is_near m ≡ true → 2 * nat
 off NearestEven q h e = (meant NearestEven q.sign q.top q.bottom h).near
 off NearestZero q h e = (meant NearestZero q.sign q.top q.bottom h).near
 off NearestAway q h e = (meant NearestAway q.sign q.top q.bottom h).near
-off Ceiling q h e = let z : ◌≡◌ {A = ℕ} 0 1 = cc in absurd (omega arith)
-off Floor q h e = let z : ◌≡◌ {A = ℕ} 0 1 = cc in absurd (omega arith)
-off TowardZero q h e = let z : ◌≡◌ {A = ℕ} 0 1 = cc in absurd (omega arith)
-off AwayFromZero q h e = let z : ◌≡◌ {A = ℕ} 0 1 = cc in absurd (omega arith)
+off Ceiling q h e = cc
+off Floor q h e = cc
+off TowardZero q h e = cc
+off AwayFromZero q h e = cc
 
 -- by how much a value lies above the floor
 pub record Rise (m : Mode) (q : Exact) : Type 0 where

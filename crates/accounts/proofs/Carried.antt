@@ -103,7 +103,7 @@ module _ (s : ℕ) (a : Standing) (t : Tally) (h : Carries s a t) where
 
 -- an exact quotient has a divisor
 finite_divided : (cx k : ℕ) (q r : Exact) (f : Fault) (z : Bool) → eqb cx 0 ≡ z → r.bottom ≡ quotient_bottom cx k → cond z (Err f) (Ok r) ≡ Ok q → 0 < q.bottom
-finite_divided cx k q r f true e b h = let z : ◌≡◌ {A = ℕ} 0 1 = cc in absurd (omega arith)
+finite_divided cx k q r f true e b h = cc
 finite_divided cx k q r f false e b h =
     let is : r ≡ q = cc in
     let n : 0 < cx = elim (cases_lt 0 cx) [ inl l ↦ l | inr l ↦ absurd (eqb-false cx 0 e (omega arith)) ] in
@@ -111,22 +111,22 @@ finite_divided cx k q r f false e b h =
 
 pub exact_divided : (y x : Datum) (q : Exact) → exact_quotient y x ≡ Ok q → 0 < q.bottom
 exact_divided (finite s cy ey) (finite t cx ex) q h = finite_divided cx (counted ex) q _ _ (eqb cx 0) refl refl h
-exact_divided (finite s cy ey) (infinite t) q h = let z : ◌≡◌ {A = ℕ} 0 1 = cc in absurd (omega arith)
-exact_divided (finite s cy ey) (quiet t p) q h = let z : ◌≡◌ {A = ℕ} 0 1 = cc in absurd (omega arith)
-exact_divided (finite s cy ey) (signalling t p) q h = let z : ◌≡◌ {A = ℕ} 0 1 = cc in absurd (omega arith)
-exact_divided (infinite s) x q h = let z : ◌≡◌ {A = ℕ} 0 1 = cc in absurd (omega arith)
-exact_divided (quiet s p) x q h = let z : ◌≡◌ {A = ℕ} 0 1 = cc in absurd (omega arith)
-exact_divided (signalling s p) x q h = let z : ◌≡◌ {A = ℕ} 0 1 = cc in absurd (omega arith)
+exact_divided (finite s cy ey) (infinite t) q h = cc
+exact_divided (finite s cy ey) (quiet t p) q h = cc
+exact_divided (finite s cy ey) (signalling t p) q h = cc
+exact_divided (infinite s) x q h = cc
+exact_divided (quiet s p) x q h = cc
+exact_divided (signalling s p) x q h = cc
 
 begun_divided : (claim : ℕ) (y x : Datum) (q : Exact) → begun_quotient claim y x ≡ Ok q → 0 < q.bottom
 begun_divided claim y x q h = by (ltb claim 9) refl
   where
     by : (u : Bool) → ltb claim 9 ≡ u → 0 < q.bottom
-    by true e = let z : ◌≡◌ {A = ℕ} 0 1 = cc in absurd (omega arith)
+    by true e = cc
     by false e = exact_divided y x q (rw e at h)
 
 record_divided : (claim : ℕ) (o : Result Operands Fault) (q : Exact) → record_quotient claim o ≡ Ok q → 0 < q.bottom
-record_divided claim (Err f) q h = let z : ◌≡◌ {A = ℕ} 0 1 = cc in absurd (omega arith)
+record_divided claim (Err f) q h = cc
 record_divided claim (Ok o) q h = begun_divided claim o.0 o.1 q h
 
 -- so a run goes on alike

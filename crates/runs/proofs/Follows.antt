@@ -1,5 +1,5 @@
 -- Two runs over the same records that answer alike go on alike. Assumes nothing.
-use Rattle.std.proofs.Common.{◌≡◌, ℕ, ◌+◌, List, [], ◌∷◌, Ok, Err, Result, refl, subst}
+use Rattle.std.proofs.Common.{◌≡◌, ℕ, ◌+◌, List, [], ◌∷◌, Ok, Err, Result, refl, ap}
 use Rattle.refusals.specs.declared.Fault.{Fault}
 use Rattle.rounding.specs.declared.mode.Mode.{Mode}
 use Rattle.card.specs.Replies.{Reply}
@@ -25,16 +25,10 @@ module _ {X S T : Type 0} (R : S → T → Type 0) (f : X → S → Reply S (Uni
           → EndsAlike R (run_from f (i + 1) xs (f x s).state) (run_from g (i + 1) xs (g x t).state)
           → EndsAlike R (by_answer p (run_from f (i + 1) xs (f x s).state) (λ e. stopped_at i e (f x s).state))
           (by_answer q (run_from g (i + 1) xs (g x t).state) (λ e. stopped_at i e (g x t).state))
-      by p q e k onward =
-          subst (λ r. EndsAlike R (by_answer p (run_from f (i + 1) xs (f x s).state) (λ d. stopped_at i d (f x s).state))
-          (by_answer r (run_from g (i + 1) xs (g x t).state) (λ d. stopped_at i d (g x t).state))) e (at p k onward)
-        where
-          at : (p : Result (Unit {0}) Fault) → R (f x s).state (g x t).state
-              → EndsAlike R (run_from f (i + 1) xs (f x s).state) (run_from g (i + 1) xs (g x t).state)
-              → EndsAlike R (by_answer p (run_from f (i + 1) xs (f x s).state) (λ d. stopped_at i d (f x s).state))
-              (by_answer p (run_from g (i + 1) xs (g x t).state) (λ d. stopped_at i d (g x t).state))
-          at (Ok u) k onward = onward
-          at (Err d) k onward = record { same = refl; kept = k }
+      by (Ok u) (Ok v) e k onward = onward
+      by (Ok u) (Err d) e k onward = cc
+      by (Err c) (Ok u) e k onward = cc
+      by (Err c) (Err d) e k onward = let is : c ≡ d = cc in record { same = ap (λ z. (stopped_at {S = Unit {0}} i z tt).ran) is; kept = k }
 
 module _ {X S T : Type 0} (R : S → T → Type 0) (f : Mode → X → S → Reply S (Unit {0})) (g : Mode → X → T → Reply T (Unit {0})) (alike : (m : Mode) (x : X) (s : S) (t : T) → R s t → Alike R (f m x s) (g m x t)) where
   pub run_alike : (r : Result Mode Fault) (xs : List X) (s : S) (t : T) → R s t → EndsAlike R (run_in r f xs s) (run_in r g xs t)

@@ -16,16 +16,3 @@ pub draft_posted : (mode : Mode) (t : Tally) (b : Begun) (y x : Datum) (a : Afte
     → ((n m : ℕ) → StandsFor b n m → a ≡ posted_quotient mode b.sign n m t) → reply a ≡ posted_exact mode (Ok d.exact) t
 draft_posted mode t b y x a d h =
     ap reply (h d.exact.top d.exact.bottom d.stands ∙ ap (λ s. posted_quotient mode s d.exact.top d.exact.bottom t) d.sign)
-
-module _ (claim : ℕ) (reciprocal : ℕ → ℕ) (mode : Mode) (t : Tally) (o : Result Operands Fault) (y x : Datum) (e : Ok (y, x) ≡ o) where
-  pub record_taken : (b : Begun) (a : After (Unit {0})) → Ok b ≡ begin_by claim reciprocal y x → StandsForQuotient b y x
-      → ((n m : ℕ) → StandsFor b n m → a ≡ posted_quotient mode b.sign n m t) → reply a ≡ posted_exact mode (record_quotient claim o) t
-  record_taken b a h k p =
-      let d = draft_of claim reciprocal b y x h k in
-      draft_posted mode t b y x a d p
-      ∙ ap (λ q. posted_exact mode q t) (sym (begun_exact claim reciprocal b y x h ∙ d.is))
-      ∙ ap (λ r. posted_exact mode (record_quotient claim r) t) e
-
-  pub record_refused : (f : Fault) → Err f ≡ begin_by claim reciprocal y x → turned_away f t ≡ posted_exact mode (record_quotient claim o) t
-  record_refused f h =
-      ap (λ q. posted_exact mode q t) (sym (refused_alike claim reciprocal f y x h)) ∙ ap (λ r. posted_exact mode (record_quotient claim r) t) e
