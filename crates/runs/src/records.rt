@@ -46,24 +46,25 @@ impl Round {
             && (-1..=3).contains(&self.adjustment)
             && (55..=155).contains(&self.slope)
     }
-}
 
-// The tenths of a score above the rating.
-fn above_rating(gross: u32, rating: u32) -> i32
-    requires { (gross ≤ 399) × (rating ≤ 999) }
-    ensures value { result ≡ pos (10 * gross) -ℤ pos rating }
-    ensures small { unsigned_abs result ≤ 3990 }
-{
-    10 * gross as i32 - rating as i32
-}
+    // The tenths of the score above the rating.
+    fn above_rating(&self) -> i32
+        requires { (self.now.gross ≤ 399) × (self.now.rating ≤ 999) }
+        ensures value { result ≡ pos (10 * self.now.gross) -ℤ pos self.now.rating }
+        ensures small { unsigned_abs result ≤ 3990 }
+    {
+        10 * self.gross as i32 - self.rating as i32
+    }
 
-// The tenths of a round's dividend.
-fn tenths(gross: u32, rating: u32, adjustment: i32) -> i32
-    requires { (gross ≤ 399) × ((rating ≤ 999) × ((negsuc 0 ≤ℤ adjustment) × (adjustment ≤ℤ pos 3))) }
-    ensures value { result ≡ round_tenths gross rating adjustment }
-    ensures small { unsigned_abs result < 10 ^ 7 }
-{
-    113 * (above_rating(gross, rating) - 10 * adjustment)
+    // The tenths of the dividend.
+    fn tenths(&self) -> i32
+        requires score { (self.now.gross ≤ 399) × (self.now.rating ≤ 999) }
+        requires adjustment { (negsuc 0 ≤ℤ self.now.adjustment) × (self.now.adjustment ≤ℤ pos 3) }
+        ensures value { result ≡ round_tenths self.now.gross self.now.rating self.now.adjustment }
+        ensures small { unsigned_abs result < 10 ^ 7 }
+    {
+        113 * (self.above_rating() - 10 * self.adjustment)
+    }
 }
 
 // A whole number with an exponent.
@@ -86,9 +87,8 @@ impl Record for Round {
         if !self.is_in_range() {
             return Err(Refusal::RoundOutOfRange.into());
         }
-        let dividend = tenths(self.gross, self.rating, self.adjustment);
         Ok((
-            whole_number(dividend, -1),
+            whole_number(self.tenths(), -1),
             whole_number(self.slope as i32, 0),
         ))
     }
