@@ -46,14 +46,14 @@ impl Room {
     }
 
     // The calls that there is room for.
-    pub(crate) fn places(&self) -> usize
+    fn places(&self) -> usize
         ensures { result ≡ places self.now }
     {
         self.drafts.capacity().min(self.outcomes.capacity())
     }
 
-    // Ends a room that no order was carried out in. A type that is taken apart elsewhere, as by an order that is, cannot have a drop.
-    pub(crate) fn leave(self) {
+    // Ends a room that no order is carried out in. It is no drop of the type: a type with a drop cannot be taken apart, as an order takes it.
+    fn leave(self) {
         let Room {
             drafts,
             outcomes: _,

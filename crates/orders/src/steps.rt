@@ -111,7 +111,7 @@ impl Desk {
         Ok(Answer::Done)
     }
 
-    // Makes one call.
+    // Makes one call. A call is data, which the account reads too, so that closures would say no more than this match.
     pub(crate) fn perform<S: Source>(&mut self, source: &S, call: &Call) -> Outcome
         requires { HasPlace self.old }
         ensures { Follows (S.Source.claim source.now) call.now self.old result self.new }

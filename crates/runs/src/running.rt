@@ -56,6 +56,7 @@ pub fn run<R: Record, S: Source>(
         }
     };
     let guard = put_in_force(setting, mode);
+    // A fault is told with the record's index.
     for (index, item) in records.iter().enumerate() {
         if let Err(fault) = post_record(card, guard.setting, source, item) {
             return Ran {
