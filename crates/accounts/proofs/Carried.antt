@@ -1,5 +1,5 @@
 -- What a call does to a card is what it does to the account. Assumes nothing.
-use Rattle.std.proofs.Common.{◌≡◌, ℕ, ◌+◌, ◌<◌, Bool, true, false, cond, eqb, ltb, leb, List, [], length, pos, ◌+ℤ◌, Ok, Err, Result, sym, refl, ap, ◌∙◌, subst, inl, inr, add_comm, mul-pos, arith}
+use Rattle.std.proofs.Common.{rules, ◌≡◌, ℕ, ◌+◌, ◌<◌, Bool, true, false, cond, eqb, ltb, leb, List, [], length, pos, ◌+ℤ◌, Ok, Err, Result, sym, refl, ap, ◌∙◌, subst, inl, inr, add_comm, mul-pos, arith}
 use lib.IntN.{+ℤ_comm}
 use Rattle.std.proofs.lemmas.Bool.{cases_lt, eqb-false}
 use Rattle.refusals.specs.declared.Fault.{Fault}
@@ -23,43 +23,18 @@ use Rattle.accounts.specs.Account.{Item, Standing, fresh, item_posted, posting, 
 use Rattle.accounts.specs.Law.{Carries, Totals, total_of, floor, figure, ceiling, inexact_near, inexact_far}
 
 -- the calls that post nothing
-no_totals : (s : ℕ) (f : Flags) → Totals [] (record { step = s; low = pos 0; figure = pos 0; high = pos 0; posted = 0; near = 0; far = 0; flags = f })
-no_totals s f =
-    record {
-      low_is_the_sum_of_floors = refl;
-      figure_is_the_sum_of_values = refl;
-      high_is_the_sum_of_ceilings = refl;
-      posted_is_their_number = refl;
-      near_counts_inexact_near = refl;
-      far_counts_inexact_far = refl;
-    }
-
 pub fresh_carried : (s : ℕ) → Carries s fresh.standing (opened s)
-fresh_carried s = record { step = refl; flags = refl; totals = no_totals s _; divided = tt }
-
--- the flags play no part in the totals
-with_other_flags : (items : List Item) (t : Tally) (f : Flags) → Totals items t
-    → Totals items (record { step = t.step; low = t.low; figure = t.figure; high = t.high; posted = t.posted; near = t.near; far = t.far; flags = f })
-with_other_flags items t f k =
-    record {
-      low_is_the_sum_of_floors = k.low_is_the_sum_of_floors;
-      figure_is_the_sum_of_values = k.figure_is_the_sum_of_values;
-      high_is_the_sum_of_ceilings = k.high_is_the_sum_of_ceilings;
-      posted_is_their_number = k.posted_is_their_number;
-      near_counts_inexact_near = k.near_counts_inexact_near;
-      far_counts_inexact_far = k.far_counts_inexact_far;
-    }
+fresh_carried s = search rules
 
 module _ (s : ℕ) (a : Standing) (t : Tally) (h : Carries s a t) where
   pub raised_carried : (f : Flags) → Carries s (with_flags f a) (with_raised f t)
-  raised_carried f =
-      record { step = h.step; flags = ap (λ g. raised_by_either g f) h.flags; totals = with_other_flags a.items t _ h.totals; divided = h.divided }
+  raised_carried f = let flags : raised_by_either t.flags f ≡ raised_by_either a.flags f = ap (λ g. raised_by_either g f) h.flags in search rules
 
   pub lowered_carried : Carries s (without_flags a) (lowered t)
-  lowered_carried = record { step = h.step; flags = refl; totals = with_other_flags a.items t _ h.totals; divided = h.divided }
+  lowered_carried = search rules
 
   pub cleared_carried : Carries s (without_items a) (cleared t)
-  cleared_carried = record { step = h.step; flags = h.flags; totals = no_totals t.step t.flags; divided = tt }
+  cleared_carried = search rules
 
   -- one item more
   added_carried : (m : Mode) (q : Exact) → 0 < q.bottom → Carries s (with_item m q a) (added m q.sign (split_by q.top q.bottom) t)
