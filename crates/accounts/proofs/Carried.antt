@@ -1,6 +1,6 @@
 -- What a call does to a card is what it does to the account. Assumes nothing.
 use Rattle.std.proofs.Common.{rules, ◌≡◌, ℕ, ◌+◌, ◌<◌, Bool, true, false, cond, eqb, ltb, leb, List, [], length, pos, ◌+ℤ◌, Ok, Err, Result, sym, refl, ap, ◌∙◌, subst, inl, inr, add_comm, mul-pos, arith}
-use lib.IntN.{+ℤ_comm}
+use Rattle.std.proofs.lemmas.Int.{ints}
 use Rattle.std.proofs.lemmas.Bool.{cases_lt, eqb-false}
 use Rattle.refusals.specs.declared.Fault.{Fault}
 use Rattle.rounding.specs.declared.mode.Mode.{Mode}
@@ -40,17 +40,16 @@ module _ (s : ℕ) (a : Standing) (t : Tally) (h : Carries s a t) where
   added_carried : (m : Mode) (q : Exact) → 0 < q.bottom → Carries s (with_item m q a) (added m q.sign (split_by q.top q.bottom) t)
   added_carried m q pos-bottom =
       let k = h.totals in
-      let x : Item = record { mode = m; quotient = q } in
       record {
         step = h.step;
         flags = ap (λ f. cond (is_whole_number q) f (raised_by_either f (inexact_flags false))) h.flags;
         totals = record {
-          low_is_the_sum_of_floors = ap (λ z. z +ℤ floor x) k.low_is_the_sum_of_floors ∙ +ℤ_comm (total_of floor a.items) (floor x);
-          figure_is_the_sum_of_values = ap (λ z. z +ℤ figure x) k.figure_is_the_sum_of_values ∙ +ℤ_comm (total_of figure a.items) (figure x);
-          high_is_the_sum_of_ceilings = ap (λ z. z +ℤ ceiling x) k.high_is_the_sum_of_ceilings ∙ +ℤ_comm (total_of ceiling a.items) (ceiling x);
-          posted_is_their_number = ap (λ n. n + 1) k.posted_is_their_number ∙ omega arith;
-          near_counts_inexact_near = ap (λ n. n + cond (inexact_near x) 1 0) k.near_counts_inexact_near ∙ add_comm _ _;
-          far_counts_inexact_far = ap (λ n. n + cond (inexact_far x) 1 0) k.far_counts_inexact_far ∙ add_comm _ _;
+          low_is_the_sum_of_floors = omega (arith, ints);
+          figure_is_the_sum_of_values = omega (arith, ints);
+          high_is_the_sum_of_ceilings = omega (arith, ints);
+          posted_is_their_number = omega arith;
+          near_counts_inexact_near = omega arith;
+          far_counts_inexact_far = omega arith;
         };
         divided = (pos-bottom, h.divided);
       }
