@@ -84,32 +84,25 @@ held (x ∷ xs) h =
     }
 
 -- the same in the words of the law, over plain numbers
-module _ (n low high figure : ℤ) (d r u k near far : ℕ) (p : n ≡ low *ℤ pos d +ℤ pos r) where
-  law_below : (low *ℤ pos d) ≤ℤ n
-  law_below = omega (arith, ints)
+law_above : (n low high : ℤ) (d r k : ℕ) → n ≡ low *ℤ pos d +ℤ pos r → high ≡ low +ℤ pos k → r ≤ k * d → n ≤ℤ (high *ℤ pos d)
+law_above n low high d r k p e l =
+    let s : up high + down low ≡ down high + up low + k = omega (arith, ints) in
+    omega (arith, ints, ap (λ t. t * d) s)
 
-  law_above : high ≡ low +ℤ pos k → r ≤ k * d → n ≤ℤ (high *ℤ pos d)
-  law_above e l =
-      let s : up high + down low ≡ down high + up low + k = omega (arith, ints) in
-      omega (arith, ints, ap (λ t. t * d) s)
-
-  law_error : figure ≡ low +ℤ pos u → 2 * (u * d) ≤ 2 * r + (near + 2 * far) * d → 2 * r ≤ 2 * (u * d) + (near + 2 * far) * d → 2 * nat_abs (figure *ℤ pos d -ℤ n) ≤ (near + 2 * far) * d
-  law_error e o b =
-      let s : up figure + down low ≡ down figure + up low + u = omega (arith, ints) in
-      omega (arith, ints, ap (λ t. t * d) s)
+law_error : (n low figure : ℤ) (d r u w : ℕ) → n ≡ low *ℤ pos d +ℤ pos r → figure ≡ low +ℤ pos u → 2 * (u * d) ≤ 2 * r + w * d → 2 * r ≤ 2 * (u * d) + w * d → 2 * nat_abs (figure *ℤ pos d -ℤ n) ≤ w * d
+law_error n low figure d r u w p e o b =
+    let s : up figure + down low ≡ down figure + up low + u = omega (arith, ints) in
+    omega (arith, ints, ap (λ t. t * d) s)
 
 -- a card that holds the sums of the items keeps the bounds
 pub bounds : (items : List Item) (c : Tally) → Divided items → Totals items c → Bounds (exact_sum items) c
 bounds items c h t =
     let l = held items h in
     let e = exact_sum items in
-    let low : ℤ = total_of floor items in
-    let high : ℤ = total_of ceiling items in
-    let by_mode : ℤ = total_of figure items in
     record {
       denominator_positive = l.den_pos;
-      sum_not_below_low = rw t.low_is_the_sum_of_floors (law_below e.num low high by_mode e.den l.r l.u (nears items + fars items) (nears items) (fars items) l.num_is);
-      sum_not_above_high = rw t.high_is_the_sum_of_ceilings (law_above e.num low high by_mode e.den l.r l.u (nears items + fars items) (nears items) (fars items) l.num_is l.high_is l.r_le);
+      sum_not_below_low = rw t.low_is_the_sum_of_floors (let p = l.num_is in omega (arith, ints));
+      sum_not_above_high = rw t.high_is_the_sum_of_ceilings (law_above e.num _ _ e.den l.r _ l.num_is l.high_is l.r_le);
       spread_is_near_and_far = rw (t.high_is_the_sum_of_ceilings, t.low_is_the_sum_of_floors, t.near_counts_inexact_near, t.far_counts_inexact_far) (let s = l.high_is in omega (arith, ints));
-      figure_close_to_sum = rw (t.figure_is_the_sum_of_values, t.near_counts_inexact_near, t.far_counts_inexact_far) (law_error e.num low high by_mode e.den l.r l.u (nears items + fars items) (nears items) (fars items) l.num_is l.figure_is l.over l.under);
+      figure_close_to_sum = rw (t.figure_is_the_sum_of_values, t.near_counts_inexact_near, t.far_counts_inexact_far) (law_error e.num _ _ e.den l.r l.u _ l.num_is l.figure_is l.over l.under);
     }
