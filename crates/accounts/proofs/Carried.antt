@@ -1,5 +1,5 @@
 -- What a call does to a card is what it does to the account. Assumes nothing.
-use Rattle.std.proofs.Common.{rules, ◌≡◌, ℕ, ◌+◌, ◌<◌, Bool, true, false, cond, eqb, ltb, leb, List, [], length, pos, ◌+ℤ◌, Ok, Err, Result, sym, refl, ap, ◌∙◌, subst, inl, inr, add_comm, mul-pos, arith}
+use Rattle.std.proofs.Common.{rules, ◌≡◌, ℕ, ◌<◌, Bool, true, false, cond, eqb, ltb, leb, List, length, Ok, Err, Result, sym, refl, ap, ◌∙◌, subst, inl, inr, mul-pos, arith}
 use Rattle.std.proofs.lemmas.Int.{ints}
 use Rattle.std.proofs.lemmas.Bool.{cases_lt, eqb-false}
 use Rattle.refusals.specs.declared.Fault.{Fault}
@@ -19,8 +19,8 @@ use Rattle.runs.specs.Records.{Operands, record_quotient}
 use Rattle.runs.specs.Runs.{record_posted, run_in}
 use Rattle.runs.proofs.Follows.{Alike, EndsAlike, run_alike}
 use Rattle.accounts.specs.Exact.{in_steps, is_large, is_whole_number}
-use Rattle.accounts.specs.Account.{Item, Standing, fresh, item_posted, posting, record_posting, with_flags, with_item, without_flags, without_items}
-use Rattle.accounts.specs.Law.{Carries, Totals, total_of, floor, figure, ceiling, inexact_near, inexact_far}
+use Rattle.accounts.specs.Account.{Standing, fresh, item_posted, posting, record_posting, with_flags, with_item, without_flags, without_items}
+use Rattle.accounts.specs.Law.{Carries}
 
 -- the calls that post nothing
 pub fresh_carried : (s : ℕ) → Carries s fresh.standing (opened s)

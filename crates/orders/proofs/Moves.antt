@@ -1,5 +1,6 @@
 -- What a call does to the desk is what it does to the account. Assumes nothing.
-use Rattle.std.proofs.Common.{◌≡◌, ℕ, ◌+◌, zero, suc, List, [], ◌∷◌, ◌++◌, get_or, set, ok_or, Some, None, Ok, Err, vec_items, vec_len, vec_capacity, Option, Result, sym, refl, ap, ◌∙◌, subst, arith}
+use Rattle.std.proofs.Common.{◌≡◌, ℕ, ◌+◌, ◌<◌, length, take, zero, suc, List, [], ◌∷◌, ◌++◌, get_or, set, ok_or, Some, None, Ok, Err, vec_items, vec_len, vec_capacity, Option, Result, sym, ap, ◌∙◌, subst, arith}
+use Rattle.std.proofs.lemmas.List.Sums.{fold_more}
 use Rattle.refusals.specs.declared.Fault.{Fault}
 use Rattle.rounding.specs.Modes.{mode_numbered}
 use Rattle.decimal.specs.Numbers.{Datum}
@@ -21,11 +22,11 @@ use Rattle.runs.specs.Runs.{RunEnd, record_posted, run_in}
 use Rattle.runs.proofs.Posted as posted
 use Rattle.accounts.specs.declared.calls.Answer.TheVariants.{Done, Quotient as QuotientAnswer, Run}
 use Rattle.accounts.specs.declared.calls.Call.{Call}
-use Rattle.accounts.specs.declared.calls.Call.TheVariants.{Begin}
+use Rattle.accounts.specs.declared.calls.Call.TheVariants.{Begin, SetMode}
 use Rattle.accounts.specs.declared.calls.NotDone.{NotDone}
 use Rattle.accounts.specs.declared.calls.NotDone.TheVariants.{NoDraft, Refused}
 use Rattle.accounts.specs.Account.{divided as quotient_told}
-use Rattle.accounts.specs.Account.{Account, CallOutcome, Next, answered, begun, draft_at, draft_posted, draft_rounded, ended, opened, posting, record_posting, with_flags}
+use Rattle.accounts.specs.Account.{Account, CallOutcome, Course, Next, answered, begun, draft_at, draft_posted, draft_rounded, course, ended, fresh, onward, opened, posting, record_posting, with_flags}
 use Rattle.accounts.specs.Law.{Carries}
 use Rattle.accounts.proofs.Carried.{exact_divided, posting_alike, raised_carried, run_carried}
 use Rattle.orders.specs.declared.desk.Desk.{Desk}
@@ -190,3 +191,13 @@ of_call claim {c} {call} {k} {l} {o} e f = subst (λ x. Follows claim x k o l) (
 
 pub of_any : (claim : ℕ) {c call : Call} {k l : Desk} {o : CallOutcome} → c ≡ call → ((n : ℕ) → Follows n call k o l) → Follows claim c k o l
 of_any claim e f = of_call claim e (f claim)
+
+-- one call more of an order
+pub one_more : (claim s : ℕ) (calls : List Call) (i : ℕ) → i < length calls → (k l : Desk) (os ps : List CallOutcome) (o : CallOutcome)
+    → Agrees s (course claim s (take i calls)).account k → os ≡ (course claim s (take i calls)).outcomes → Follows claim (get_or calls i (SetMode 0)) k o l → ps ≡ os ++ (o ∷ [])
+    → Agrees s (course claim s (take (i + 1) calls)).account l × (ps ≡ (course claim s (take (i + 1) calls)).outcomes)
+one_more claim s calls i h k l os ps o a e f v =
+    let p : Course = course claim s (take i calls) in
+    let more : course claim s (take (i + 1) calls) ≡ onward claim s p (get_or calls i (SetMode 0)) = fold_more (onward claim s) (record { account = fresh; outcomes = [] }) calls i (SetMode 0) h in
+    let g = f.follows s p.account a in
+    (subst (λ (x : Course). Agrees s x.account l) (sym more) g.agrees, v ∙ ap (λ x. x ++ (o ∷ [])) e ∙ ap (λ x. p.outcomes ++ (x ∷ [])) g.outcome ∙ ap (λ (x : Course). x.outcomes) (sym more))

@@ -1,17 +1,16 @@
 -- Call by call the desk agrees with the account.
 -- Assumes nothing.
-use Rattle.std.proofs.Common.{◌≡◌, ℕ, List, ◌∷◌, [], ◌++◌, take, vec_items, vec_len, vec_capacity, sym, ap, ◌∙◌, subst, arith}
+use Rattle.std.proofs.Common.{◌≡◌, ℕ, List, vec_items, vec_len, vec_capacity, sym, ap, ◌∙◌, subst, arith}
 use Rattle.std.proofs.lemmas.List.{nil_from_length, take_all}
-use Rattle.std.proofs.lemmas.List.Sums.{fold_more}
 use Rattle.reciprocal.proofs.Layered.{layers_approximate}
 use Rattle.card.specs.Tallies.{tally}
 use Rattle.accounts.specs.declared.calls.Call.{Call}
-use Rattle.accounts.specs.declared.calls.Call.TheVariants.{SetMode}
-use Rattle.accounts.specs.Account.{CallOutcome, Course, course, fresh, onward}
+use Rattle.accounts.specs.Account.{course}
 use Rattle.accounts.specs.Law.{Carries}
 use Rattle.accounts.proofs.Beside.{modes_mean}
 use Rattle.accounts.proofs.Sums.{bounds}
 use Rattle.orders.specs.Desks.{Agrees}
+use Rattle.orders.proofs.Moves.{one_more}
 use Rattle.orders.proofs.replaying.carry_out.Goals as goal
 
 pub loop-call-init : goal.loop-call-init
@@ -30,13 +29,11 @@ loop-call-init g c =
 
 pub loop-call-preserved : goal.loop-call-preserved
 loop-call-preserved g c =
-    let claim = g.S.Source.claim c.args.source.now in
-    let s = c.args.card.step in
-    let so_far : Course = course claim s (take c.loop-call.call-index c.args.calls.now) in
-    let e = fold_more (onward claim s) (record { account = fresh; outcomes = [] }) c.args.calls.now c.loop-call.call-index (SetMode 0) c.loop-call-test.true in
-    let f = c.perform-outcome.ensures.follows s so_far.account c.loop-call.invariant.0 in (
-      subst (λ (p : Course). Agrees s p.account c.perform-outcome.new.self) (sym e) f.agrees,
-      c.push_reserved.ensures.items ∙ ap (λ (os : List CallOutcome). os ++ (c.perform-outcome.result ∷ [])) c.loop-call.invariant.1 ∙ ap (λ (o : CallOutcome). so_far.outcomes ++ (o ∷ [])) f.outcome ∙ ap (λ (p : Course). p.outcomes) (sym e),
+    let l = c.loop-call in
+    let r = one_more (g.S.Source.claim c.args.source.now) c.args.card.step c.args.calls.now l.call-index c.loop-call-test.true l.desk c.perform-outcome.new.self (vec_items l.outcomes) (vec_items c.push_reserved.new.self) c.perform-outcome.result
+    l.invariant.0 l.invariant.1 c.perform-outcome.ensures c.push_reserved.ensures.items in (
+      r.0,
+      r.1,
       omega (arith, c.perform-outcome.ensures.len),
       omega (arith, c.push_reserved.ensures.len),
       omega (arith, c.perform-outcome.ensures.cap),
