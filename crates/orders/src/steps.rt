@@ -116,15 +116,15 @@ impl Desk {
         requires { HasPlace self.old }
         ensures { Follows (S.Source.claim source.now) call.now self.old result self.new }
     {
-        match call {
-            Call::SetMode(number) => self.set_mode(*number),
-            Call::Divide(pair) => self.divide(source, *pair),
-            Call::Begin(pair) => self.begin(source, *pair),
-            Call::Round(number) => self.round(*number),
-            Call::Post(number) => self.post(*number),
-            Call::StrikeOut(number) => self.strike_out(*number),
-            Call::RunPairs(mode, pairs) => self.run_over(source, *mode, pairs),
-            Call::RunRounds(mode, rounds) => self.run_over(source, *mode, rounds),
+        match *call {
+            Call::SetMode(number) => self.set_mode(number),
+            Call::Divide(pair) => self.divide(source, pair),
+            Call::Begin(pair) => self.begin(source, pair),
+            Call::Round(number) => self.round(number),
+            Call::Post(number) => self.post(number),
+            Call::StrikeOut(number) => self.strike_out(number),
+            Call::RunPairs(mode, pairs) => self.run_over(source, mode, pairs),
+            Call::RunRounds(mode, rounds) => self.run_over(source, mode, rounds),
             Call::Lower => self.lower(),
             Call::Clear => self.clear(),
         }
