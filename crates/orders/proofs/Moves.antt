@@ -8,7 +8,7 @@ use Rattle.quotient.specs.Quotients.{decimal32, divided}
 use Rattle.divider.specs.declared.draft.Draft.{Draft}
 use Rattle.divider.specs.declared.outcome.Quotient.{Quotient}
 use Rattle.divider.specs.declared.outcome.QuotientWord.{QuotientWord}
-use Rattle.divider.specs.Drafts.{StandsFor, StandsForQuotient, begin_by, held}
+use Rattle.divider.specs.Drafts.{StandsFor, StandsForQuotient, begin_by}
 use Rattle.divider.specs.Divisions.{number_quotient, outcome, under_sign, word_outcome}
 use Rattle.divider.specs.Exact.{DraftOf, begun_quotient, exact_quotient}
 use Rattle.divider.proofs.Exact.{draft_of, begun_exact, refused_alike}
@@ -84,7 +84,7 @@ module _ {number : ℕ} {k l : Desk} {r : Result Draft NotDone} (t : Taken numbe
       by s a (Some p) g x = absurd x
 
   pub one_open : {d : Draft} → r ≡ Ok d → {o : CallOutcome} {m : Desk} → m.begun ≡ l.begun
-      → ((s : ℕ) (a : Account) → Agrees s a l → (p : Operands) → DraftOf (held d) p.0 p.1 → ComesTo s (told s (Some p) a) o m)
+      → ((s : ℕ) (a : Account) → Agrees s a l → (p : Operands) → DraftOf d p.0 p.1 → ComesTo s (told s (Some p) a) o m)
       → Moves (λ s a. told s (draft_at number a) (ended number a)) k o m
   one_open {d} h {o} {m} v f =
       record {
@@ -98,14 +98,14 @@ module _ {number : ℕ} {k l : Desk} {r : Result Draft NotDone} (t : Taken numbe
       by s a (Some p) g x = f s (ended number a) (left s a g) p x
 
 -- a draft of p is finished on a desk that agrees with the account
-module _ {s : ℕ} {a : Account} {l : Desk} (g : Agrees s a l) (p : Operands) (d : Draft) (h : DraftOf (held d) p.0 p.1) where
+module _ {s : ℕ} {a : Account} {l : Desk} (g : Agrees s a l) (p : Operands) (d : Draft) (h : DraftOf d p.0 p.1) where
   pub posted_comes : (r : Result (Unit {0}) Fault) (c : Card) {o : CallOutcome} → o ≡ answered r
-      → ((n m : ℕ) → StandsFor (held d) n m → ◌≡◌ {A = After (Unit {0})} (record { answer = r; card = tally c }) (posted_quotient l.setting.mode (held d).sign n m (tally l.card)))
+      → ((n m : ℕ) → StandsFor d n m → ◌≡◌ {A = After (Unit {0})} (record { answer = r; card = tally c }) (posted_quotient l.setting.mode d.sign n m (tally l.card)))
       → ComesTo s (draft_posted s (Some p) a) o (record { setting = l.setting; card = c; begun = l.begun })
   posted_comes r c i e =
       let q = exact_quotient p.0 p.1 in
       let b : ◌≡◌ {A = Reply Tally (Unit {0})} (record { answer = r; state = tally c }) (posted_exact a.mode q (tally l.card)) =
-      posted.draft_posted l.setting.mode (tally l.card) (held d) p.0 p.1 _ h e
+      posted.draft_posted l.setting.mode (tally l.card) d p.0 p.1 _ h e
       ∙ ap (λ x. posted_exact l.setting.mode x (tally l.card)) (sym h.is) ∙ ap (λ m. posted_exact m q (tally l.card)) g.mode in
       let alike = posting_alike s a.standing (tally l.card) g.carries a.mode q (exact_divided p.0 p.1) in
       record {
@@ -118,7 +118,7 @@ module _ {s : ℕ} {a : Account} {l : Desk} (g : Agrees s a l) (p : Operands) (d
       }
 
   pub rounded_comes : (r : Quotient) (w : QuotientWord) (c : Card) → w ≡ word_outcome (outcome r)
-      → ((n m : ℕ) → StandsFor (held d) n m → outcome r ≡ under_sign (held d).sign (divided decimal32 l.setting.mode (held d).sign n m (held d).ideal))
+      → ((n m : ℕ) → StandsFor d n m → outcome r ≡ under_sign d.sign (divided decimal32 l.setting.mode d.sign n m d.ideal))
       → tally c ≡ with_raised r.flags (tally l.card)
       → ComesTo s (draft_rounded (Some p) a) (Ok (QuotientAnswer w)) (record { setting = l.setting; card = c; begun = l.begun })
   rounded_comes r w c v e f =
@@ -152,11 +152,11 @@ module _ (claim : ℕ) (reciprocal : ℕ → ℕ) {k l : Desk} (pair : Pair) {y 
         len = omega (arith, len);
       }
 
-  pub begun_follows : (d : Draft) → Ok (held d) ≡ begin_by claim reciprocal y x → StandsForQuotient (held d) y x
+  pub begun_follows : (d : Draft) → Ok d ≡ begin_by claim reciprocal y x → StandsForQuotient d y x
       → vec_items l.begun ≡ vec_items k.begun ++ (Some d ∷ []) → Follows claim (Begin pair) k (Ok Done) l
   begun_follows d h t e =
-      let f = draft_of claim reciprocal (held d) y x h t in
-      let b = begun_exact claim reciprocal (held d) y x h ∙ f.is in
+      let f = draft_of claim reciprocal d y x h t in
+      let b = begun_exact claim reciprocal d y x h ∙ f.is in
       pushed (Some d) e (Ok Done) (ap answered (sym b)) (subst (λ r. Holds (Some d) (opened r (y, x))) (sym b) f)
 
   pub refused_follows : (f : Fault) → Err f ≡ begin_by claim reciprocal y x → {e : NotDone} → e ≡ Refused f

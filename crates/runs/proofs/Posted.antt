@@ -1,15 +1,12 @@
 -- A record's draft is posted as the exact quotient of its two numbers. Assumes nothing.
-use Rattle.std.proofs.Common.{◌≡◌, ℕ, Ok, Err, Result, sym, ap, ◌∙◌}
-use Rattle.refusals.specs.declared.Fault.{Fault}
+use Rattle.std.proofs.Common.{◌≡◌, ℕ, Ok, ap, ◌∙◌}
 use Rattle.rounding.specs.declared.mode.Mode.{Mode}
 use Rattle.decimal.specs.Numbers.{Datum}
 use Rattle.divider.specs.Begun.{Begun}
-use Rattle.divider.specs.Drafts.{StandsFor, StandsForQuotient, begin_by}
+use Rattle.divider.specs.Drafts.{StandsFor}
 use Rattle.divider.specs.Exact.{DraftOf}
-use Rattle.divider.proofs.Exact.{draft_of, begun_exact, refused_alike}
-use Rattle.card.specs.Replies.{posted_exact, reply, turned_away}
+use Rattle.card.specs.Replies.{posted_exact, reply}
 use Rattle.card.specs.Tallies.{After, Tally, posted_quotient}
-use Rattle.runs.specs.Records.{Operands, record_quotient}
 
 -- whatever fraction the draft stands for is posted, so the exact quotient is
 pub draft_posted : (mode : Mode) (t : Tally) (b : Begun) (y x : Datum) (a : After (Unit {0})) (d : DraftOf b y x)
