@@ -1,2 +1,4 @@
 pub mod Digits
+pub mod Folds
 pub mod Goes
+pub mod Numerals

@@ -4,8 +4,10 @@
 mod display;
 mod line;
 mod lines;
+mod number;
 mod word;
 
 pub use display::{NumberText, WordText};
 pub use line::Line;
+pub use number::{read_number, read_signed};
 pub use word::{read_word_digits, word_digits};
