@@ -1,10 +1,10 @@
 -- How words and numbers are written as text. Assumes nothing.
-use Rattle.std.specs.Prelude.{ℕ, zero, suc, ◌+◌, ◌-◌, ◌*◌, ◌/◌, ◌%◌, ◌^◌, cond, ◌&&◌, List, [], ◌∷◌, ◌++◌, length, Some, None, codes, decimal, fold, Option, ◌==◌, nat_le, nat_lt}
-use Rattle.std.specs.Option.{option_map}
+use Rattle.std.specs.Prelude.{ℕ, zero, suc, ◌+◌, ◌/◌, ◌%◌, ◌^◌, cond, List, [], ◌∷◌, ◌++◌, length, None, codes, decimal, Option, ◌==◌, nat_lt}
 use Rattle.std.specs.Fmt.{signed_decimal}
 use Rattle.rounding.specs.declared.sign.Sign.{Sign}
 use Rattle.rounding.specs.declared.sign.Sign.TheVariants.{Plus, Minus}
 use Rattle.decimal.specs.Numbers.{Datum, finite, infinite, quiet, signalling}
+use Rattle.text.specs.Numerals.{digits_in}
 
 abbrev pub sign_text : Sign → List ℕ
 sign_text Plus = codes "+"
@@ -29,18 +29,6 @@ hex_digits (suc k) n = hex_digit (n / 16 ^ k % 16) ∷ hex_digits k n
 abbrev pub word_text : ℕ → List ℕ
 word_text w = hex_digits 8 w
 
--- the value of a digit of either case
-abbrev pub hex_value : ℕ → Option ℕ
-hex_value b =
-    cond (nat_le 48 b && nat_le b 57) (Some (b - 48))
-    (cond (nat_le 65 b && nat_le b 70) (Some (b - 55))
-    (cond (nat_le 97 b && nat_le b 102) (Some (b - 87)) None))
-
--- one more digit behind those of n
-abbrev pub digit_behind : Option ℕ → ℕ → Option ℕ
-digit_behind None b = None
-digit_behind (Some n) b = option_map (λ d. n * 16 + d) (hex_value b)
-
--- the word of exactly eight hexadecimal digits
+-- the word of exactly eight hexadecimal digits, of either case
 abbrev pub word_in : List ℕ → Option ℕ
-word_in bs = cond (length bs == 8) (fold digit_behind (Some 0) bs) None
+word_in bs = cond (length bs == 8) (digits_in 16 bs) None
