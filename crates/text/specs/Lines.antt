@@ -1,6 +1,5 @@
 -- Text in lines: byte 10 ends a line, and what stands behind the last end is a line too if it has a byte. Assumes nothing.
 use Rattle.std.specs.Prelude.{ℕ, ◌+◌, ◌-◌, ◌^◌, min, cond, List, [], ◌∷◌, ◌++◌, length, take, fold, ◌==◌}
-use Rattle.text.specs.declared.line.Line.{Line}
 
 -- a text in its lines that are ended and what follows the last end
 pub record Split : Type 0 where
@@ -17,9 +16,6 @@ lines_of bs = fold and_byte (record { ended = []; rest = [] }) bs
 pub record Known : Type 0 where
   pub number : ℕ
   pub text : List ℕ
-
-abbrev pub known : Line → Known
-known l = record { number = l.number; text = take l.len l.bytes }
 
 abbrev pub first_known : Known
 first_known = record { number = 1; text = [] }

@@ -3,7 +3,6 @@
 
 mod display;
 mod line;
-mod lines;
 mod number;
 mod word;
 

@@ -1,11 +1,80 @@
-// One line of a text: its number, from one, and as much of its bytes as any use of it needs.
-ghost use Rattle.std.specs.Prelude.{◌≤◌};
+// One line of a text, in a fixed room: its number, from one, and as much of its bytes as any use of it needs.
+ghost use Rattle.std.specs.Prelude.{◌≡◌, ℕ, List, [], ◌∷◌, ◌++◌, if◌then◌else◌, Some, None, nat_eq};
+ghost use Rattle.text.specs.Lines.{first_known, next_known, known_with, known_after, known_in, lines_of};
+
+use arrayvec::ArrayVec;
+use std::marker::Model;
+use std::mem;
 
 /// The first 33 bytes of a line tell every line of at most 32 bytes from the others.
-#[derive(Clone, Copy)]
+#[derive(Drop)]
 pub struct Line {
-    pub(crate) number: u64,
-    pub(crate) bytes: [u8; 33],
-    pub(crate) len: usize,
-    ghost short: { len ≤ 33 },
+    number: u64,
+    text: ArrayVec<u8, 33>,
+}
+
+impl Model for Line {
+    ghost use Rattle.text.specs.Lines.{Known};
+
+    ghost Value = { Known };
+
+    ghost view = { λ l. record { number = l.number; text = l.text.items } };
+}
+
+impl Line {
+    /// The first line of a text, before any byte.
+    pub fn first() -> Line
+        ensures value { result ≡ first_known }
+        ensures begins { result ≡ known_in (lines_of []) }
+    {
+        Line {
+            number: 1,
+            text: ArrayVec::new(),
+        }
+    }
+
+    // The line behind this one, before any byte.
+    fn next(&self) -> Line
+        ensures { result ≡ next_known self.now }
+    {
+        Line {
+            number: self.number.saturating_add(1),
+            text: ArrayVec::new(),
+        }
+    }
+
+    // One more byte, which is not kept behind 33 others.
+    fn push(&mut self, byte: u8)
+        ensures { self.new ≡ known_with self.old byte }
+    {
+        let _ = self.text.try_push(byte);
+    }
+
+    /// The text goes on with `byte`. Where that ends the line, the line comes back and the next one begins.
+    pub fn take(&mut self, byte: u8) -> Option<Line>
+        ensures line { result ≡ (if nat_eq byte 10 then Some self.old else None) }
+        ensures after { self.new ≡ known_after self.old byte }
+        ensures goes_on { (text : List ℕ) → self.old ≡ known_in (lines_of text) → self.new ≡ known_in (lines_of (text ++ (byte ∷ []))) }
+    {
+        if byte == b'\n' {
+            let next = self.next();
+            return Some(mem::replace(self, next));
+        }
+        self.push(byte);
+        None
+    }
+
+    /// The line's number.
+    pub fn number(&self) -> u64
+        ensures { result ≡ self.now.number }
+    {
+        self.number
+    }
+
+    /// The line's first 33 bytes.
+    pub fn text(&self) -> &[u8]
+        ensures { result.now ≡ self.now.text }
+    {
+        self.text.as_slice()
+    }
 }
