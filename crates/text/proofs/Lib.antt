@@ -2,3 +2,4 @@ pub mod Digits
 pub mod Folds
 pub mod Goes
 pub mod Numerals
+pub mod Written

@@ -12,6 +12,10 @@ and_byte s b = cond (b == 10) (record { ended = s.ended ++ (s.rest ∷ []); rest
 abbrev pub lines_of : List ℕ → Split
 lines_of bs = fold and_byte (record { ended = []; rest = [] }) bs
 
+-- the lines of a text
+abbrev pub lines_in : List ℕ → List (List ℕ)
+lines_in bs = (lines_of bs).ended ++ cond (length (lines_of bs).rest == 0) [] ((lines_of bs).rest ∷ [])
+
 -- what is known of a line: its number, which stays at the greatest of 64 bits once it is there, and its first 33 bytes
 pub record Known : Type 0 where
   pub number : ℕ
