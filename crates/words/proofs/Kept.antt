@@ -1,10 +1,11 @@
 -- What is kept of a line tells whether it is a word, and which. Assumes nothing.
-use Rattle.std.proofs.Common.{◌≡◌, ℕ, List, length, take, sym, ap, ◌∙◌, inl, inr, arith}
+use Rattle.std.proofs.Common.{◌≡◌, ℕ, List, length, take, Result, sym, ap, ◌∙◌, inl, inr, arith}
 use Rattle.std.proofs.lemmas.List.{take_all, length-take-le}
 use Rattle.std.proofs.lemmas.Bool.{cases_lt}
 use Rattle.text.specs.Texts.{word_in}
 use Rattle.text.proofs.Digits.{too_long}
-use Rattle.words.specs.declared.answer.Answer.{Answer}
+use Rattle.words.specs.declared.answer.Word.{Word}
+use Rattle.words.specs.declared.answer.NotAWord.{NotAWord}
 use Rattle.words.specs.Answers.{answer_for, answered}
 
 word_kept : (bs : List ℕ) → word_in (take 33 bs) ≡ word_in bs
@@ -17,5 +18,5 @@ word_kept bs =
     ]
 
 -- the answer by what was read of the text that is kept
-pub by_kept : (n : ℕ) (kept : List ℕ) (a : Answer) → a ≡ answered n kept → (text : List ℕ) → kept ≡ take 33 text → a ≡ answered n text
+pub by_kept : (n : ℕ) (kept : List ℕ) (a : Result Word NotAWord) → a ≡ answered n kept → (text : List ℕ) → kept ≡ take 33 text → a ≡ answered n text
 by_kept n kept a e text k = e ∙ ap (answered n) k ∙ ap (answer_for n) (word_kept text)

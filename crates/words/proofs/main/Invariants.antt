@@ -1,6 +1,0 @@
--- Assumes nothing.
-use Rattle.std.proofs.Common.{◌≡◌, length}
-use Rattle.words.proofs.main.Given as goal
-
-abbrev pub invariant-loop : goal.invariant-loop
-invariant-loop l = length l.buffer ≡ 4096
