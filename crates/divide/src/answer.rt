@@ -1,47 +1,79 @@
 // The answer to a line.
 ghost use Rattle.std.specs.Prelude.{◌≡◌, ℕ, List, take, Some};
-ghost use Rattle.text.specs.Lines.{known};
-ghost use Rattle.divide.specs.Answers.{answer_text, answered, defect_text, mode_answer};
-ghost use Rattle.rounding.specs.Modes.{mode_numbered};
+ghost use Rattle.divide.specs.Answers.{answer_text, answered, defect_text, problem_text, quotient_text, refused};
 
 use crate::request::{Defect, Request};
 use divider::{QuotientWord, divide_words};
 use reciprocal::Source;
-use refusals::Refusal;
+use refusals::{Fault, Refusal};
 use rounding::Mode;
 use std::fmt;
-use text::{Line, WordText};
+use text::{Answers, Line, WordText};
 
+/// The quotient that a line asks for.
 #[derive(Clone, Copy)]
-pub enum Answer {
-    Quotient(QuotientWord),
+pub struct Quotient(pub QuotientWord);
+
+/// Why a line has no quotient: it is refused, or the line of this number is malformed.
+#[derive(Clone, Copy)]
+pub enum Problem {
     Refused(Refusal),
     Malformed(u64, Defect),
 }
 
-// The quotient that was asked for, or the refusal.
-fn carry_out<S: Source>(source: &S, request: Request) -> Answer
-    ensures { result ≡ mode_answer (S.Source.claim source.now) request (mode_numbered request.mode) }
-{
-    let mode = match Mode::numbered(request.mode) {
-        Ok(mode) => mode,
-        Err(fault) => return Answer::Refused(fault.refusal),
-    };
-    match divide_words(source, mode, request.dividend, request.divisor) {
-        Ok(quotient) => Answer::Quotient(quotient),
-        Err(fault) => Answer::Refused(fault.refusal),
+impl From<Fault> for Problem {
+    ghost from_gives = { λ fault problem. problem ≡ refused fault };
+
+    fn from(fault: Fault) -> Problem {
+        Problem::Refused(fault.refusal)
     }
 }
 
-impl Answer {
-    /// The answer to `line` over `source`. What is kept of a line decides it, however long the line is.
-    pub fn to<S: Source>(source: &S, line: &Line) -> Answer
-        ensures value { result ≡ answered (S.Source.claim source.now) (known line.now).number (known line.now).text }
-        ensures whole_line { (text : List ℕ) → (known line.now).text ≡ take 33 text → result ≡ answered (S.Source.claim source.now) (known line.now).number text }
-    {
-        match Request::read(line.text()) {
-            Ok(request) => carry_out(source, request),
-            Err(defect) => Answer::Malformed(line.number(), defect),
+/// The answer to `line` over `source`. What is kept of a line decides it, however long the line is.
+pub fn answer<S: Source>(source: &S, line: &Line) -> Result<Quotient, Problem>
+    ensures value { result ≡ answered (S.Source.claim source.now) line.now.number line.now.text }
+    ensures whole_line { (text : List ℕ) → line.now.text ≡ take 33 text → result ≡ answered (S.Source.claim source.now) line.now.number text }
+{
+    let request = Request::read(line.text()).map_err(|defect| Problem::Malformed(
+        line.number(),
+        defect,
+    ))?;
+    let mode = Mode::try_from(request.mode)?;
+    let quotient = divide_words(source, mode, request.dividend, request.divisor)?;
+    Ok(Quotient(quotient))
+}
+
+/// What answers each line with its quotient over a source.
+#[derive(Drop)]
+pub struct Divisions<'a, S>(pub &'a S);
+
+impl<S: Source> Answers for Divisions<'_, S> {
+    ghost answer_text = { λ d l. answer_text (answered (S.Source.claim d.0.now) l.number l.text) };
+
+    type Answer = Quotient;
+
+    type Problem = Problem;
+
+    fn answer(&self, line: &Line) -> Result<Quotient, Problem> {
+        answer(self.0, line)
+    }
+}
+
+impl fmt::Display for Quotient {
+    ghost output = { λ q. Some (quotient_text q.0) };
+
+    fn fmt<W: fmt::Write>(&self, f: &mut fmt::Formatter<W>) -> fmt::Result {
+        write!(f, "{} {}", WordText(self.0.word), u8::from(self.0.flags))
+    }
+}
+
+impl fmt::Display for Problem {
+    ghost output = { λ p. Some (problem_text p) };
+
+    fn fmt<W: fmt::Write>(&self, f: &mut fmt::Formatter<W>) -> fmt::Result {
+        match *self {
+            Problem::Refused(refusal) => write!(f, "R {}", u8::from(refusal)),
+            Problem::Malformed(line, defect) => write!(f, "? line {line}: {defect}"),
         }
     }
 }
@@ -50,33 +82,10 @@ impl fmt::Display for Defect {
     ghost output = { λ d. Some (defect_text d) };
 
     fn fmt<W: fmt::Write>(&self, f: &mut fmt::Formatter<W>) -> fmt::Result {
-        match self {
-            Defect::Mode => write!(f, "the mode is not one to nine digits"),
-            Defect::Dividend => write!(
-                f,
-                "the dividend is not eight hexadecimal digits followed by a blank"
-            ),
-            Defect::Divisor => write!(
-                f,
-                "the divisor is not eight hexadecimal digits at the end of the line"
-            ),
-        }
-    }
-}
-
-impl fmt::Display for Answer {
-    ghost output = { λ a. Some (answer_text a) };
-
-    fn fmt<W: fmt::Write>(&self, f: &mut fmt::Formatter<W>) -> fmt::Result {
-        match *self {
-            Answer::Quotient(quotient) => write!(
-                f,
-                "{} {}",
-                WordText(quotient.word),
-                quotient.flags.number()
-            ),
-            Answer::Refused(refusal) => write!(f, "R {}", refusal.number()),
-            Answer::Malformed(line, defect) => write!(f, "? line {line}: {defect}"),
-        }
+        f.write_str(match self {
+            Defect::Mode => "the mode is not one to nine digits",
+            Defect::Dividend => "the dividend is not eight hexadecimal digits followed by a blank",
+            Defect::Divisor => "the divisor is not eight hexadecimal digits at the end of the line",
+        })
     }
 }

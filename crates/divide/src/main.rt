@@ -4,66 +4,33 @@
 mod answer;
 mod request;
 
-use answer::Answer;
+use answer::Divisions;
 use anyhow::anyhow;
-use reciprocal::{Newton, ShortDivision, Source, ThreeDigitTable, TwoDigitTable};
-use std::io::{BufWriter, Read, Write};
+use reciprocal::{Newton, ShortDivision, Source, TWO_LAYERS, TwoDigitTable};
+use std::io::{BufReader, BufWriter, Write};
 use std::{env, io};
-use text::Line;
+use text::answer_lines;
 
-// Answers every line of the standard input.
+// Answers every line of the standard input over `source`.
 fn answer_all<S: Source>(rt: &HostRuntime, source: &S) -> io::Result<()> {
-    let mut input = rt.stdin();
+    let input = BufReader::new(rt.alloc(), rt.stdin())?;
     let mut output = BufWriter::new(rt.alloc(), rt.stdout())?;
-    let mut buffer = [0u8; 4096];
-    let mut line = Line::first();
-    for _ in 0..u64::MAX {
-        let count = input.read(&mut buffer)?;
-        if count == 0 {
-            break;
-        }
-        for byte in &buffer[0..count] {
-            if let Some(ended) = line.take(*byte) {
-                writeln!(output, "{}", Answer::to(source, &ended))?;
-            }
-        }
-    }
-    if !line.text().is_empty() {
-        writeln!(output, "{}", Answer::to(source, &line))?;
-    }
+    answer_lines(input, &mut output, &Divisions(source))?;
     output.flush()
-}
-
-// Two layers over the three-digit table.
-fn answer_by_three(rt: &HostRuntime) -> io::Result<()> {
-    let lower = Newton {
-        lower: ThreeDigitTable,
-    };
-    answer_all(rt, &Newton { lower })
-}
-
-// Four layers over the two-digit table, which then claims nine.
-fn answer_by_two(rt: &HostRuntime) -> io::Result<()> {
-    let two = Newton {
-        lower: TwoDigitTable,
-    };
-    let four = Newton { lower: two };
-    let eight = Newton { lower: four };
-    answer_all(rt, &Newton { lower: eight })
 }
 
 fn run(rt: &HostRuntime) -> anyhow::Result<()> {
     let mut arguments = env::args(rt)?;
     let _program = arguments.next();
-    let Some(name) = arguments.next() else {
-        return Ok(answer_by_three(rt)?);
-    };
-    match name.as_str() {
-        "three" => Ok(answer_by_three(rt)?),
-        "two" => Ok(answer_by_two(rt)?),
-        "short" => Ok(answer_all(rt, &ShortDivision::claiming(9))?),
-        _ => Err(anyhow!("the source is none of three, two and short")),
+    let name = arguments.next();
+    match name.as_ref().map_or("three", |name| name.as_str()) {
+        "three" => answer_all(rt, &TWO_LAYERS)?,
+        // Four layers over the two-digit table claim nine digits.
+        "two" => answer_all(rt, &Newton(Newton(Newton(Newton(TwoDigitTable)))))?,
+        "short" => answer_all(rt, &ShortDivision::claiming(9))?,
+        _ => return Err(anyhow!("the source is none of three, two and short")),
     }
+    Ok(())
 }
 
 fn main(rt: HostRuntime) -> anyhow::Result<()> {

@@ -1,10 +1,11 @@
 // What a line asks for.
-ghost use Rattle.std.specs.Prelude.{◌≡◌, ℕ, ◌+◌, ◌<◌, ◌≤◌, List, length, take, IfSome, OnSome};
-ghost use Rattle.divide.specs.Requests.{mode_digit, ended_word, mode_in, request_in};
+ghost use Rattle.std.specs.Prelude.{◌≡◌, ℕ, List, take};
+ghost use Rattle.std.specs.Option.{option_map};
+ghost use Rattle.divide.specs.Requests.{field_in, request_in};
 
-use text::read_word_digits;
+use text::{read_number, read_word_digits};
 
-/// The quotient of two words in the mode of this number.
+/// The quotient of two words in the mode of this number, which is judged behind the words and so stays a number here.
 #[derive(Clone, Copy)]
 pub struct Request {
     pub mode: u32,
@@ -20,61 +21,24 @@ pub enum Defect {
     Divisor,
 }
 
-// The value of a digit at this place of a number of at most nine.
-fn digit_at(place: usize, byte: u8) -> Option<u32>
-    ensures value { result ≡ mode_digit place byte }
-    ensures small { IfSome result (λ d. (d < 10) × (place < 9)) }
+// The field that the first blank ends, and what stands behind it.
+fn split_field(text: &[u8]) -> Option<(&[u8], &[u8])>
+    ensures { option_map (λ f. (f.0.now, f.1.now)) result ≡ field_in text.now }
 {
-    if place < 9 && byte >= 48 && byte <= 57 {
-        Some((byte - 48) as u32)
-    } else {
-        None
-    }
-}
-
-// The number that the text begins with, and where the next field begins.
-fn read_mode(text: &[u8]) -> Option<(u32, usize)>
-    ensures { result ≡ mode_in text.now }
-{
-    let mut number: u32 = 0;
-    for (i, byte) in text.iter().enumerate() {
-        if *byte == 32 {
-            return if i == 0 { None } else { Some((number, i + 1)) };
-        }
-        let digit = digit_at(i, *byte)?;
-        number = number * 10 + digit;
-    }
-    None
-}
-
-// The word that begins at `at` and is ended by a blank.
-fn read_ended_word(text: &[u8], at: usize) -> Option<u32>
-    ensures value { result ≡ ended_word text.now at }
-    ensures within { OnSome result (at + 9 ≤ length text.now) }
-{
-    if at < text.len().saturating_sub(8) && text[at + 8] == 32 {
-        read_word_digits(&text[at..at + 8])
-    } else {
-        None
-    }
+    let blank = text.iter().position(|byte| *byte == b' ')?;
+    Some((&text[..blank], &text[blank + 1..]))
 }
 
 fn read_request(text: &[u8]) -> Result<Request, Defect>
     ensures { result ≡ request_in text.now }
 {
-    let Some((mode, at)) = read_mode(text) else {
-        return Err(Defect::Mode);
-    };
-    let Some(dividend) = read_ended_word(text, at) else {
-        return Err(Defect::Dividend);
-    };
-    let Some(divisor) = read_word_digits(&text[at + 9..]) else {
-        return Err(Defect::Divisor);
-    };
+    let (mode, words) = split_field(text).ok_or(Defect::Mode)?;
+    let mode = read_number(mode).ok_or(Defect::Mode)?;
+    let (dividend, divisor) = split_field(words).ok_or(Defect::Dividend)?;
     Ok(Request {
         mode,
-        dividend,
-        divisor,
+        dividend: read_word_digits(dividend).ok_or(Defect::Dividend)?,
+        divisor: read_word_digits(divisor).ok_or(Defect::Divisor)?,
     })
 }
 

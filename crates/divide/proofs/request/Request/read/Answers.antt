@@ -4,5 +4,5 @@ use Rattle.divide.specs.Requests.{request_in}
 use Rattle.divide.proofs.Kept.{request_kept}
 use Rattle.divide.proofs.request.Request.read.Goals as goal
 
-pub returns : goal.returns
-returns c = record { value = c.read_request.ensures; whole_line = λ line e. c.read_request.ensures ∙ ap request_in e ∙ request_kept line }
+pub returns-clause-whole_line : goal.returns-clause-whole_line
+returns-clause-whole_line c = λ line e. c.read_request.ensures ∙ ap request_in e ∙ request_kept line

@@ -1,6 +1,0 @@
--- Assumes nothing.
-use Rattle.std.proofs.Common.{◌≡◌, length}
-use Rattle.divide.proofs.answer_all.Given as goal
-
-abbrev pub invariant-loop : goal.invariant-loop
-invariant-loop g l = length l.buffer ≡ 4096
