@@ -34,10 +34,8 @@ pub fn answer<S: Source>(source: &S, line: &Line) -> Result<Quotient, Problem>
     ensures value { result ≡ answered (S.Source.claim source.now) line.now.number line.now.text }
     ensures whole_line { (text : List ℕ) → line.now.text ≡ take 33 text → result ≡ answered (S.Source.claim source.now) line.now.number text }
 {
-    let request = Request::read(line.text()).map_err(|defect| Problem::Malformed(
-        line.number(),
-        defect,
-    ))?;
+    let malformed = |defect| Problem::Malformed(line.number(), defect);
+    let request = Request::read(line.text()).map_err(malformed)?;
     let mode = Mode::try_from(request.mode)?;
     let quotient = divide_words(source, mode, request.dividend, request.divisor)?;
     Ok(Quotient(quotient))

@@ -7,15 +7,14 @@ mod request;
 use answer::Divisions;
 use anyhow::anyhow;
 use reciprocal::{Newton, ShortDivision, Source, TWO_LAYERS, TwoDigitTable};
-use std::io::{BufReader, BufWriter, Write};
+use std::io::{BufWriter, Write};
 use std::{env, io};
 use text::answer_lines;
 
 // Answers every line of the standard input over `source`.
 fn answer_all<S: Source>(rt: &HostRuntime, source: &S) -> io::Result<()> {
-    let input = BufReader::new(rt.alloc(), rt.stdin())?;
     let mut output = BufWriter::new(rt.alloc(), rt.stdout())?;
-    answer_lines(input, &mut output, &Divisions(source))?;
+    answer_lines(&mut rt.stdin(), &mut output, &Divisions(source))?;
     output.flush()
 }
 
@@ -23,6 +22,7 @@ fn run(rt: &HostRuntime) -> anyhow::Result<()> {
     let mut arguments = env::args(rt)?;
     let _program = arguments.next();
     let name = arguments.next();
+    // The sources have three types, so each name calls the generic function with its own.
     match name.as_ref().map_or("three", |name| name.as_str()) {
         "three" => answer_all(rt, &TWO_LAYERS)?,
         // Four layers over the two-digit table claim nine digits.

@@ -36,7 +36,7 @@ read_on base n (b ∷ bs) p h = by_digit (ltb (digit_value b) base) refl (λ k. 
     by_digit true e rest =
         let q : 1 ≤ base ^ length bs = one-le-pow (length bs) base p in
         let d : digit_value b < base = ltb-true (digit_value b) base e in
-        let k : (n * base + digit_value b + 1) * base ^ length bs ≤ 2 ^ 32 = room n (digit_value b) base (base ^ length bs) d (rw pow-suc at h) in
+        let k : (n * base + digit_value b + 1) * base ^ length bs ≤ 2 ^ 32 = room n (digit_value b) base (base ^ length bs) d (rw (pow-suc base (length bs)) at h) in
         let f : n * base + digit_value b < 2 ^ 32 = one (base ^ length bs) (n * base + digit_value b) q k in
         ap (λ o. fold (and_step (with_digit base)) o bs) (cond-true (ltb (n * base + digit_value b) (2 ^ 32)) _ _ (lt-ltb _ _ f))
         ∙ rest k

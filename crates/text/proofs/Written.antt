@@ -1,11 +1,11 @@
 -- What is written of the lines of a text, line by line. Assumes nothing.
-use Rattle.std.proofs.Common.{◌≡◌, ℕ, ◌+◌, ◌-◌, ◌^◌, ◌<◌, min, eqb, cond, List, [], ◌∷◌, ◌++◌, length, take, Some, None, Ok, Err, IfSome, IfOk, OnOk, Option, Result, sym, ap, ◌∙◌, subst, inl, inr, arith, append_assoc, length-take}
+use Rattle.std.proofs.Common.{◌≡◌, ℕ, ◌+◌, ◌-◌, ◌^◌, ◌<◌, min, eqb, cond, List, [], ◌∷◌, ◌++◌, length, take, Some, None, Ok, Err, IfSome, OnOk, Option, Result, sym, ap, ◌∙◌, subst, inl, inr, arith, append_assoc, append-nil, length-take}
 use Rattle.std.proofs.lemmas.List.Sums.{fold_push}
-use Rattle.std.proofs.lemmas.Bool.{cond-true, cond-false, cases_Bool, ne_eqb}
+use Rattle.std.proofs.lemmas.Bool.{cond-true, cond-false, cases_lt, cases_Bool, eq-eqb, ne_eqb}
 use Rattle.std.proofs.KnownBytes.{Appends-trans, Consumes-trans, Consumes-whole}
 use Rattle.std.specs.Io.KnownBytes.{Appends, Consumes, IsAtEnd}
 use Rattle.text.specs.Lines.{and_byte, lines_of, lines_in, Known, known_in}
-use Rattle.text.specs.Answers.{answers_from}
+use Rattle.text.specs.Answers.{answers_from, rest_text}
 
 module _ (answer : Known → List ℕ) where
   abbrev written : List (List ℕ) → List ℕ
@@ -48,7 +48,7 @@ module _ (answer : Known → List ℕ) where
       ]
 
   -- what stands behind the last line feed is a line where it has a byte
-  pub one_left : (bs : List ℕ) (k : Known) → k ≡ known_in (lines_of bs) → 0 < length k.text → written (lines_in bs) ≡ written (lines_of bs).ended ++ (answer k ++ (10 ∷ []))
+  one_left : (bs : List ℕ) (k : Known) → k ≡ known_in (lines_of bs) → 0 < length k.text → written (lines_in bs) ≡ written (lines_of bs).ended ++ (answer k ++ (10 ∷ []))
   one_left bs k e h =
       let s = lines_of bs in
       let n : length s.ended + 1 ≡ 1 + length s.ended = omega arith in
@@ -58,13 +58,26 @@ module _ (answer : Known → List ℕ) where
       ∙ more 1 (length s.ended + 1) s.ended s.rest n
       ∙ ap (λ i. written s.ended ++ (answer i ++ (10 ∷ []))) (sym e)
 
-  pub finished : {U E : Type 0} (r : Result U E) (there left : Option (List ℕ)) (bs : List ℕ) (k : Known) (old mid new : Option (List ℕ)) → Consumes there left bs → IsAtEnd left
-      → k ≡ known_in (lines_of bs) → 0 < length k.text → Appends old mid (written (lines_of bs).ended) → OnOk r (Appends mid new (answer k ++ (10 ∷ [])))
-      → OnOk r (IfSome there (λ text. Appends old new (written (lines_in text))))
-  finished (Ok u) there left bs k old mid new c z e h p q =
-      Consumes-whole there left bs (λ text. Appends old new (written (lines_in text))) c z (subst (Appends old new) (sym (one_left bs k e h)) (Appends-trans old mid new _ _ p q))
-  finished (Err u) there left bs k old mid new c z e h p q = tt
+  rest_left : (bs : List ℕ) (k : Known) → k ≡ known_in (lines_of bs) → written (lines_in bs) ≡ written (lines_of bs).ended ++ rest_text answer k
+  rest_left bs k e =
+      let s = lines_of bs in
+      let l : length (take 33 s.rest) ≡ length k.text = ap (λ i. length i.text) (sym e) in
+      elim (cases_lt 0 (length k.text)) [
+        | inl h ↦
+            let some : length k.text ≡ 0 → ⊥ = λ z. omega arith in
+            one_left bs k e h ∙ ap (λ t. written s.ended ++ t) (sym (cond-false (eqb (length k.text) 0) [] (answer k ++ (10 ∷ [])) (ne_eqb (length k.text) 0 some)))
+        | inr h ↦
+            let none : length s.rest ≡ 0 = omega (arith, length-take 33 s.rest) in
+            ap (λ ls. written (s.ended ++ ls)) (cond-true (eqb (length s.rest) 0) _ _ (eq-eqb (length s.rest) 0 none))
+            ∙ ap written (append-nil s.ended)
+            ∙ sym (append-nil (written s.ended))
+            ∙ ap (λ t. written s.ended ++ t) (sym (cond-true (eqb (length k.text) 0) [] (answer k ++ (10 ∷ [])) (eq-eqb (length k.text) 0 (omega arith))))
+      ]
 
--- one more byte is read
-pub read_on : {E : Type 0} (r : Result ℕ E) (b : ℕ) (bs : List ℕ) (there mid left : Option (List ℕ)) → r ≡ Ok b → Consumes there mid bs → IfOk r (λ i. Consumes mid left (i ∷ [])) → Consumes there left (bs ++ (b ∷ []))
-read_on r b bs there mid left e c k = Consumes-trans there mid left bs (b ∷ []) c (subst (λ o. IfOk o (λ i. Consumes mid left (i ∷ []))) e k)
+  -- at the end of the input every line is answered
+  pub finished : {U E : Type 0} (r : Result U E) (there mid left : Option (List ℕ)) (bs last : List ℕ) (k : Known) (old held new : Option (List ℕ)) → Consumes there mid bs → Consumes mid left last → last ≡ []
+      → IsAtEnd left → k ≡ known_in (lines_of bs) → Appends old held (written (lines_of bs).ended) → OnOk r (Appends held new (rest_text answer k)) → OnOk r (IfSome there (λ text. Appends old new (written (lines_in text))))
+  finished (Ok u) there mid left bs last k old held new c d n z e p q =
+      let all : Consumes there left bs = subst (Consumes there left) (ap (λ t. bs ++ t) n ∙ append-nil bs) (Consumes-trans there mid left bs last c d) in
+      Consumes-whole there left bs (λ text. Appends old new (written (lines_in text))) all z (subst (Appends old new) (sym (rest_left bs k e)) (Appends-trans old held new _ _ p q))
+  finished (Err u) there mid left bs last k old held new c d n z e p q = tt

@@ -1,4 +1,4 @@
-// Numbers and words, shown.
+// Numbers and words, shown. Types of other crates are shown through types of this one, as `Display` asks.
 ghost use Rattle.std.specs.Prelude.{Some};
 ghost use Rattle.decimal.specs.Numbers.{datum};
 ghost use Rattle.text.specs.Texts.{sign_text, number_text, word_text};

@@ -12,7 +12,7 @@ fn with_digit(number: u32, byte: u8, radix: u32) -> Option<u32>
     number.checked_mul(radix)?.checked_add(digit)
 }
 
-/// The number that at most nine decimal or eight hexadecimal digits write.
+/// The number that these digits write, which are few enough to fit.
 pub(crate) fn read_digits(digits: &[u8], radix: u32) -> Option<u32>
     requires low { 2 ≤ radix }
     requires high { radix ≤ 36 }

@@ -5,12 +5,11 @@ mod answer;
 
 use answer::Words;
 use std::io;
-use std::io::{BufReader, BufWriter, Write};
+use std::io::{BufWriter, Write};
 use text::answer_lines;
 
 fn main(rt: HostRuntime) -> io::Result<()> {
-    let input = BufReader::new(rt.alloc(), rt.stdin())?;
     let mut output = BufWriter::new(rt.alloc(), rt.stdout())?;
-    answer_lines(input, &mut output, &Words)?;
+    answer_lines(&mut rt.stdin(), &mut output, &Words)?;
     output.flush()
 }

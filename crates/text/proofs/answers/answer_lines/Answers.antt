@@ -1,36 +1,56 @@
 -- Assumes nothing.
-use Rattle.std.proofs.Common.{◌≡◌, ◌<◌, ◌++◌, ◌∷◌, [], eqb, false, length, sym, subst, ap, ◌∙◌, arith}
-use Rattle.std.proofs.lemmas.Bool.{eqb-false}
-use Rattle.std.specs.Io.KnownBytes.{Appends}
-use Rattle.text.proofs.Written.{line_ended, line_goes_on, finished, read_on}
+use Rattle.std.proofs.Common.{◌+◌, ◌++◌, ◌∷◌, [], take, drop, get_or, sym, subst, ap, ◌∙◌, append_assoc, append-nil, arith}
+use Rattle.std.proofs.lemmas.List.{at_drop_more, at_drop_all}
+use Rattle.std.specs.Io.KnownBytes.{Appends, Consumes}
+use Rattle.std.proofs.KnownBytes.{Consumes-trans}
+use Rattle.text.specs.Lines.{lines_of}
+use Rattle.text.specs.Answers.{answers_from}
+use Rattle.text.proofs.Written.{line_ended, line_goes_on, finished}
 use Rattle.text.proofs.answers.answer_lines.Goals as goal
+use Rattle.text.proofs.answers.answer_lines.Goals.{in-Some+in_ok-answer_line, in_default}
 
-pub loop-byte-preserved-in_ok-answer_line : goal.loop-byte-preserved-in_ok-answer_line
-loop-byte-preserved-in_ok-answer_line g c =
-    let i = c.loop-byte.invariant in
-    let b = c.in_ok-byte.field-0 in
-    record {
-      bytes = i.bytes ++ (b ∷ []);
-      read = read_on _ b i.bytes _ _ _ c.in_ok-byte.was i.read c.in-Some.ensures.steps;
-      line = c.take.ensures.goes_on i.bytes i.line;
-      written = line_ended (g.A.Answers.answer_text c.args.answers.now) i.bytes b c.loop-byte.line c.in-Some-take.ended _ _ _ c.in-Some-take.ensures.line i.line i.written c.in_ok-answer_line.ensures;
-    }
+pub returns-then-count-eq0 : goal.returns-then-count-eq0
+returns-then-count-eq0 g c =
+    let i = c.loop.invariant in
+    let r = c.in_ok-count.ensures.bytes in
+    let z = c.if-count-eq0.true in
+    finished (g.A.Answers.answer_text c.args.answers.now) c.answer_rest.result _ _ _ i.bytes _ c.loop.line _ _ _ i.read r.0 (ap (λ n. take n c.read.new.buf) z) (r.1 z (omega arith)) i.line i.written
+    c.answer_rest.ensures
+
+pub loop-byte-init : goal.loop-byte-init
+loop-byte-init g c =
+    let i = c.loop.invariant in
+    record { bytes = i.bytes; read = Consumes-trans _ _ _ i.bytes _ i.read c.in_ok-count.ensures.bytes.0; line = i.line; written = i.written }
 
 pub loop-byte-preserved : goal.loop-byte-preserved
 loop-byte-preserved g c =
     let i = c.loop-byte.invariant in
-    let b = c.in_ok-byte.field-0 in
+    let items = take c.in_ok-count.count c.read.new.buf in
+    let at = c.loop-byte.byte-index in
+    let b = get_or items at 0 in
+    let answer = g.A.Answers.answer_text c.args.answers.now in
     record {
       bytes = i.bytes ++ (b ∷ []);
-      read = read_on _ b i.bytes _ _ _ c.in_ok-byte.was i.read c.in-Some.ensures.steps;
+      read = subst (Consumes _ _) (at_drop_more (λ t. i.bytes ++ t) items at 0 c.loop-byte-test.true ∙ sym (append_assoc i.bytes (b ∷ []) (drop (at + 1) items))) i.read;
       line = c.take.ensures.goes_on i.bytes i.line;
-      written = subst (Appends _ _) (sym (line_goes_on (g.A.Answers.answer_text c.args.answers.now) i.bytes b c.loop-byte.line c.in_default.ensures.line)) i.written;
+      written = elim c.match-take.branch [
+        | in-Some+in_ok-answer_line w ↦
+            line_ended answer i.bytes b c.loop-byte.line w.in-Some.ended _ _ _ w.in-Some.ensures.line i.line i.written
+            (subst (λ o. Appends (g.W.Write.contents c.loop-byte.output) (g.W.Write.contents o) (answer w.in-Some.ended ++ (10 ∷ []))) (sym w.output-is) w.in_ok-answer_line.ensures)
+        | in_default w ↦
+            subst (λ o. Appends (g.W.Write.contents c.args.output.now) (g.W.Write.contents o) (answers_from answer 1 (lines_of (i.bytes ++ (b ∷ []))).ended)) (sym w.output-is)
+            (subst (Appends _ _) (sym (line_goes_on answer i.bytes b c.loop-byte.line w.in_default.ensures.line)) i.written)
+      ];
     }
 
-pub returns : goal.returns
-returns g c =
+pub loop-preserved : goal.loop-preserved
+loop-preserved g c =
     let i = c.loop-byte.invariant in
-    let k = c.loop-byte.line in
-    let e : eqb (length k.text) 0 ≡ false = ap (λ t. eqb (length t) 0) (sym c.text.ensures) ∙ sym c.if-is_empty.ensures in
-    let some : 0 < length k.text = omega (arith, eqb-false (length k.text) 0 e) in
-    finished (g.A.Answers.answer_text c.args.answers.now) c.answer_line-2.result _ _ i.bytes k _ _ _ i.read c.in-None.ensures.steps i.line some i.written c.answer_line-2.ensures
+    let items = take c.in_ok-count.count c.read.new.buf in
+    record {
+      room = c.if-count-eq0.array_long;
+      bytes = i.bytes;
+      read = subst (Consumes _ _) (at_drop_all (λ t. i.bytes ++ t) items c.loop-byte.byte-index c.loop-byte-test.false ∙ append-nil i.bytes) i.read;
+      line = i.line;
+      written = i.written;
+    }
