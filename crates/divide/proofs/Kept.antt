@@ -99,12 +99,12 @@ too_many xs h = grind (arith, nat_tests)
 
 -- what the divisor makes of the request
 abbrev with_divisor : ℕ → ℕ → List ℕ → Result Request Defect
-with_divisor m v rest = and_then (Err Divisor) (word_in rest) (λ w. Ok (record { mode = m; dividend = v; divisor = w }))
+with_divisor m v rest = and_then (Err Divisor) (word_in rest) (λ w. Ok (record { mode = m; pair = record { dividend = v; divisor = w } }))
 
 divisor_kept : (m v k : ℕ) (bs : List ℕ) → 8 < k → k < length bs → with_divisor m v (take k bs) ≡ with_divisor m v bs
 divisor_kept m v k bs h l =
     let n : length (take k bs) ≡ k = length-take-le k bs (omega arith) in
-    ap (λ o. and_then (Err Divisor) o (λ w. Ok (record { mode = m; dividend = v; divisor = w }))) (too_long (take k bs) (omega arith) ∙ sym (too_long bs (omega arith)))
+    ap (λ o. and_then (Err Divisor) o (λ w. Ok (record { mode = m; pair = record { dividend = v; divisor = w } }))) (too_long (take k bs) (omega arith) ∙ sym (too_long bs (omega arith)))
 
 abbrev with_words : ℕ → List ℕ → Result Request Defect
 with_words m words = with_field (Err Dividend) word_in (with_divisor m) words

@@ -26,7 +26,7 @@ division_answer (Err f) = Err (refused f)
 
 -- the mode is judged before the source
 abbrev pub mode_answer : ℕ → Request → Result Mode Fault → Result Quotient Problem
-mode_answer claim r (Ok mode) = division_answer (word_division claim mode r.dividend r.divisor)
+mode_answer claim r (Ok mode) = division_answer (word_division claim mode r.pair.dividend r.pair.divisor)
 mode_answer claim r (Err f) = Err (refused f)
 
 abbrev pub request_answer : ℕ → ℕ → Result Request Defect → Result Quotient Problem

@@ -28,4 +28,4 @@ with_field d read f bs = and_then d (field_in bs) (λ p. and_then d (read p.0) (
 abbrev pub request_in : List ℕ → Result Request Defect
 request_in bs =
     with_field (Err Mode) number_in
-    (λ m words. with_field (Err Dividend) word_in (λ v rest. and_then (Err Divisor) (word_in rest) (λ w. Ok (record { mode = m; dividend = v; divisor = w }))) words) bs
+    (λ m words. with_field (Err Dividend) word_in (λ v rest. and_then (Err Divisor) (word_in rest) (λ w. Ok (record { mode = m; pair = record { dividend = v; divisor = w } }))) words) bs

@@ -37,7 +37,7 @@ pub fn answer<S: Source>(source: &S, line: &Line) -> Result<Quotient, Problem>
     let malformed = |defect| Problem::Malformed(line.number(), defect);
     let request = Request::read(line.text()).map_err(malformed)?;
     let mode = Mode::try_from(request.mode)?;
-    let quotient = divide_words(source, mode, request.dividend, request.divisor)?;
+    let quotient = divide_words(source, mode, request.pair)?;
     Ok(Quotient(quotient))
 }
 

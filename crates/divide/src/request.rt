@@ -3,14 +3,14 @@ ghost use Rattle.std.specs.Prelude.{◌≡◌, ℕ, List, take};
 ghost use Rattle.std.specs.Option.{option_map};
 ghost use Rattle.divide.specs.Requests.{field_in, request_in};
 
+use divider::Pair;
 use text::{read_number, read_word_digits};
 
 /// The quotient of two words in the mode of this number, which is judged behind the words and so stays a number here.
 #[derive(Clone, Copy)]
 pub struct Request {
     pub mode: u32,
-    pub dividend: u32,
-    pub divisor: u32,
+    pub pair: Pair,
 }
 
 /// The part of a line that is not as it should be.
@@ -35,11 +35,11 @@ fn read_request(text: &[u8]) -> Result<Request, Defect>
     let (mode, words) = split_field(text).ok_or(Defect::Mode)?;
     let mode = read_number(mode).ok_or(Defect::Mode)?;
     let (dividend, divisor) = split_field(words).ok_or(Defect::Dividend)?;
-    Ok(Request {
-        mode,
+    let pair = Pair {
         dividend: read_word_digits(dividend).ok_or(Defect::Dividend)?,
         divisor: read_word_digits(divisor).ok_or(Defect::Divisor)?,
-    })
+    };
+    Ok(Request { mode, pair })
 }
 
 impl Request {
