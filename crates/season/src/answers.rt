@@ -1,34 +1,32 @@
 // What is told of a round and of the season.
 ghost use Rattle.std.specs.Prelude.{◌≡◌, ◌+◌, ◌*◌, Some};
+ghost use Rattle.season.specs.declared.answers.Problem.TheVariants.{Malformed, Refused};
 ghost use Rattle.season.specs.Texts.{tenths_text};
 
+use crate::lines;
+use crate::posting::Season;
 use card::Card;
-use refusals::Refusal;
+use refusals::{Fault, Refusal};
 use std::fmt;
 
-/// The answer to a line; what a round adds is in tenths.
+/// What a round adds to a card, in tenths.
 #[derive(Clone, Copy)]
-pub enum Answer {
-    Posted {
-        floor: i64,
-        value: i64,
-        ceiling: i64,
-    },
+pub struct Added {
+    pub floor: i64,
+    pub value: i64,
+    pub ceiling: i64,
+}
+
+/// Why a line adds nothing.
+#[derive(Clone, Copy)]
+pub enum Problem {
     Refused(Refusal),
     Malformed,
 }
 
-/// The totals, the counts and what they say of the exact sum.
-#[derive(Clone, Copy)]
-pub struct Summary(pub Card);
-
 // Shows a number of tenths as `-0.4`.
 #[derive(Clone, Copy)]
 struct Tenths(i64);
-
-// Shows a number of hundredths as `0.05`.
-#[derive(Clone, Copy)]
-struct Hundredths(u32);
 
 // The hundredths by which the figure is away from the exact sum at most: five for half a tenth.
 fn farthest(card: &Card) -> u32
@@ -47,43 +45,48 @@ fn reason(refusal: Refusal) -> &'static str {
     }
 }
 
+impl From<Fault> for Problem {
+    ghost from_gives = { λ fault problem. problem ≡ Refused fault.refusal };
+
+    fn from(fault: Fault) -> Problem {
+        Problem::Refused(fault.refusal)
+    }
+}
+
+impl From<lines::Malformed> for Problem {
+    ghost from_gives = { λ _ problem. problem ≡ Malformed };
+
+    fn from(_: lines::Malformed) -> Problem {
+        Problem::Malformed
+    }
+}
+
 impl fmt::Display for Tenths {
     ghost output = { λ t. Some (tenths_text t.0) };
 
     fn fmt<W: fmt::Write>(&self, f: &mut fmt::Formatter<W>) -> fmt::Result {
+        let sign = if self.0 < 0 { "-" } else { "" };
         let magnitude = self.0.unsigned_abs();
-        if self.0 < 0 {
-            write!(f, "-{}.{}", magnitude / 10, magnitude % 10)
-        } else {
-            write!(f, "{}.{}", magnitude / 10, magnitude % 10)
-        }
+        write!(f, "{sign}{}.{}", magnitude / 10, magnitude % 10)
     }
 }
 
-impl fmt::Display for Hundredths {
+impl fmt::Display for Added {
     fn fmt<W: fmt::Write>(&self, f: &mut fmt::Formatter<W>) -> fmt::Result {
-        write!(f, "{}.{:02}", self.0 / 100, self.0 % 100)
+        let floor = Tenths(self.floor);
+        let value = Tenths(self.value);
+        let ceiling = Tenths(self.ceiling);
+        write!(f, "floor {floor}, value {value}, ceiling {ceiling}")
     }
 }
 
-impl fmt::Display for Answer {
+impl fmt::Display for Problem {
     fn fmt<W: fmt::Write>(&self, f: &mut fmt::Formatter<W>) -> fmt::Result {
         match *self {
-            Answer::Posted {
-                floor,
-                value,
-                ceiling,
-            } => write!(
-                f,
-                "floor {}, value {}, ceiling {}",
-                Tenths(floor),
-                Tenths(value),
-                Tenths(ceiling)
-            ),
-            Answer::Refused(refusal) => {
-                write!(f, "refused with {}: {}", refusal.number(), reason(refusal))
+            Problem::Refused(refusal) => {
+                write!(f, "refused with {}: {}", u8::from(refusal), reason(refusal))
             }
-            Answer::Malformed => write!(
+            Problem::Malformed => write!(
                 f,
                 "expected GROSS RATING ADJUSTMENT SLOPE, such as 85 72.3 0 128"
             ),
@@ -91,13 +94,15 @@ impl fmt::Display for Answer {
     }
 }
 
-impl fmt::Display for Summary {
+/// The totals, the counts and what they say of the exact sum.
+impl fmt::Display for Season {
     fn fmt<W: fmt::Write>(&self, f: &mut fmt::Formatter<W>) -> fmt::Result {
-        let card = self.0;
+        let card = self.card;
         let (low, figure, high) = (Tenths(card.low), Tenths(card.figure), Tenths(card.high));
         let (posted, near, far) = (card.posted, card.near, card.far);
         let plural = if posted == 1 { "" } else { "s" };
-        let within = Hundredths(farthest(&card));
+        let hundredths = farthest(&card);
+        let (whole, rest) = (hundredths / 100, hundredths % 100);
         writeln!(f, "season: low {low}, figure {figure}, high {high}")?;
         writeln!(f, "counts: posted {posted}, near {near}, far {far}")?;
         write!(
@@ -105,6 +110,6 @@ impl fmt::Display for Summary {
             "The exact sum of the {posted} differential{plural} posted "
         )?;
         write!(f, "is at least {low} and at most {high}, ")?;
-        write!(f, "and it lies within {within} of {figure}.")
+        write!(f, "and it lies within {whole}.{rest:02} of {figure}.")
     }
 }

@@ -5,46 +5,37 @@ mod answers;
 mod lines;
 mod posting;
 
-use answers::Summary;
 use anyhow::anyhow;
-use lines::{Typed, read_number};
+use lines::read_line;
 use posting::Season;
-use reciprocal::{Newton, ThreeDigitTable};
+use reciprocal::TWO_LAYERS;
 use std::io::{BufRead, BufReader, BufWriter, Write};
 use std::{env, io};
+use text::read_number;
 
 // Answers every line of the standard input, and then tells the season.
 fn answer_all(rt: &HostRuntime, mut season: Season) -> io::Result<()> {
-    let lower = Newton {
-        lower: ThreeDigitTable,
-    };
-    let source = Newton { lower };
     let mut output = BufWriter::new(rt.alloc(), rt.stdout())?;
-    let mut number: u64 = 0;
-    for line in BufReader::new(rt.alloc(), rt.stdin())?.split(rt.alloc(), b'\n') {
-        number = number.saturating_add(1);
-        if let Some(answer) = season.answer(&source, Typed::on(line?.as_slice())) {
-            writeln!(output, "line {number}: {answer}")?;
+    let lines = BufReader::new(rt.alloc(), rt.stdin())?.split(rt.alloc(), b'\n');
+    for (number, line) in (1u64..).zip(lines) {
+        match season.answer(&TWO_LAYERS, read_line(line?.as_slice())) {
+            Some(Ok(added)) => writeln!(output, "line {number}: {added}")?,
+            Some(Err(problem)) => writeln!(output, "line {number}: {problem}")?,
+            None => {}
         }
     }
-    writeln!(output, "{}", Summary(season.card))?;
+    writeln!(output, "{season}")?;
     output.flush()
 }
 
 // A season in the mode that is asked for, or in mode 1.
 fn begin_season(rt: &HostRuntime) -> anyhow::Result<Season> {
-    let mut arguments = env::args(rt)?;
-    let _program = arguments.next();
-    let mode = match arguments.next() {
+    let mode = match env::args(rt)?.nth(1) {
         Some(text) => read_number(text.as_bytes()),
         None => Some(1),
     };
-    if let Some(number) = mode
-        && let Ok(season) = Season::begin(number)
-    {
-        return Ok(season);
-    }
-    Err(anyhow!("the mode is not a number from 1 to 7"))
+    mode.and_then(|mode| Season::begin(mode).ok())
+        .ok_or_else(|| anyhow!("the mode is not a number from 1 to 7"))
 }
 
 fn run(rt: &HostRuntime) -> anyhow::Result<()> {

@@ -5,88 +5,81 @@ ghost use Rattle.rounding.specs.Modes.{mode_numbered};
 ghost use Rattle.card.specs.Tallies.{opened, tally};
 ghost use Rattle.season.specs.Seasons.{round_answer, round_run, told, typed_after, typed_answer};
 
-use crate::answers::Answer;
-use crate::lines::Typed;
+use crate::answers::{Added, Problem};
+use crate::lines::Malformed;
 use card::{Card, Setting};
 use reciprocal::Source;
 use refusals::Fault;
 use rounding::Mode;
 use runs::{Round, run};
 
-/// The card of the season, which is in tenths, and the number of the mode in which rounds are posted.
+/// The card of the season, which is in tenths, and the mode in which rounds are posted.
 #[derive(Drop)]
 pub struct Season {
     pub card: Card,
     setting: Setting,
-    mode: u32,
 }
 
 // A new card in tenths.
 fn open_card() -> Card
     ensures { tally result ≡ opened 1 }
 {
-    match Card::open(1) {
-        Ok(card) => card,
-        Err(_) => unreachable(),
-    }
+    Card::open(1).unwrap()
 }
 
 // The answer to a round: the fault that it met, or what it added to a card of its own.
-fn tell(fault: Option<Fault>, alone: &Card) -> Answer
+fn tell(fault: Option<Fault>, alone: &Card) -> Result<Added, Problem>
     ensures { result ≡ told fault (tally alone.now) }
 {
     match fault {
-        Some(fault) => Answer::Refused(fault.refusal),
-        None => Answer::Posted {
+        Some(fault) => Err(fault.into()),
+        None => Ok(Added {
             floor: alone.low,
             value: alone.figure,
             ceiling: alone.high,
-        },
+        }),
     }
 }
 
 impl Season {
     /// A season before its first round. Refuses a number that is no mode.
     pub fn begin(mode: u32) -> Result<Season, Fault>
-        ensures mode { result_map_both (λ s. s.mode) (λ f. f) result ≡ result_map_both (λ _. mode) (λ f. f) (mode_numbered mode) }
+        ensures mode { result_map_both (λ s. s.setting.mode) (λ f. f) result ≡ mode_numbered mode }
         ensures card { IfOk result (λ s. tally s.card ≡ opened 1) }
     {
-        Mode::numbered(mode)?;
+        let mode = Mode::try_from(mode)?;
         Ok(Season {
             card: open_card(),
-            setting: Setting::new(),
-            mode,
+            setting: Setting { mode },
         })
     }
 
     // Posts a round. What it adds is told by a card of its own.
-    fn post<S: Source>(&mut self, source: &S, round: Round) -> Answer
-        ensures answer { result ≡ round_answer (S.Source.claim source.now) self.old.mode round (tally self.old.card) }
-        ensures after { tally self.new.card ≡ (round_run (S.Source.claim source.now) self.old.mode round (tally self.old.card)).state }
-        ensures mode { self.new.mode ≡ self.old.mode }
+    fn post<S: Source>(&mut self, source: &S, round: Round) -> Result<Added, Problem>
+        ensures answer { result ≡ round_answer (S.Source.claim source.now) self.old.setting.mode round (tally self.old.card) }
+        ensures after { tally self.new.card ≡ (round_run (S.Source.claim source.now) self.old.setting.mode round (tally self.old.card)).state }
+        ensures mode { self.new.setting.mode ≡ self.old.setting.mode }
     {
+        let mode = u32::from(self.setting.mode);
         let mut alone = open_card();
-        run(&mut alone, &mut self.setting, source, self.mode, &[round]);
-        let ran = run(
-            &mut self.card,
-            &mut self.setting,
-            source,
-            self.mode,
-            &[round],
-        );
+        run(&mut alone, &mut self.setting, source, mode, &[round]);
+        let ran = run(&mut self.card, &mut self.setting, source, mode, &[round]);
         tell(ran.fault, &alone)
     }
 
     /// The answer to a line, which posts its round. A line that says nothing has none.
-    pub fn answer<S: Source>(&mut self, source: &S, typed: Typed) -> Option<Answer>
-        ensures answer { result ≡ typed_answer (S.Source.claim source.now) self.old.mode typed (tally self.old.card) }
-        ensures after { tally self.new.card ≡ typed_after (S.Source.claim source.now) self.old.mode typed (tally self.old.card) }
-        ensures mode { self.new.mode ≡ self.old.mode }
+    pub fn answer<S: Source>(
+        &mut self,
+        source: &S,
+        typed: Option<Result<Round, Malformed>>,
+    ) -> Option<Result<Added, Problem>>
+        ensures answer { result ≡ typed_answer (S.Source.claim source.now) self.old.setting.mode typed (tally self.old.card) }
+        ensures after { tally self.new.card ≡ typed_after (S.Source.claim source.now) self.old.setting.mode typed (tally self.old.card) }
+        ensures mode { self.new.setting.mode ≡ self.old.setting.mode }
     {
-        match typed {
-            Typed::Nothing => None,
-            Typed::Round(round) => Some(self.post(source, round)),
-            Typed::Malformed => Some(Answer::Malformed),
+        match typed? {
+            Ok(round) => Some(self.post(source, round)),
+            Err(malformed) => Some(Err(malformed.into())),
         }
     }
 }
