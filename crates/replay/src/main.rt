@@ -1,53 +1,41 @@
 // Carries out an order of calls on a new season card, answers each of them, and tells the card at the end.
 #![tactic(auto)]
 
-mod answer;
+mod answers;
 mod order;
-mod parts;
-mod pieces;
+mod records;
 mod shape;
 
-use answer::Answer;
+use answers::{Malformed, Told};
 use anyhow::anyhow;
-use order::{Order, read_step};
+use order::Order;
 use orders::{NotReplayed, Replayed, Room, replay};
-use pieces::Pieces;
-use reciprocal::{Newton, ThreeDigitTable};
+use reciprocal::TWO_LAYERS;
 use shape::Shape;
-use std::io;
-use std::io::{BufWriter, Read, Write};
+use std::io::{self, BufWriter, Read, Write};
 
-// The one line that answers an order that was not begun.
-fn tell(rt: &HostRuntime, answer: Answer) -> anyhow::Result<()> {
-    Ok(println!(rt; "{answer}")?)
-}
-
-// A line for each line of the order, and then the card.
+// A line for each line of the order, and then the card. Only calls have outcomes, so these go on only where a line is a call.
 fn tell_all(rt: &HostRuntime, order: &Order, replayed: &Replayed) -> io::Result<()> {
     let mut output = BufWriter::new(rt.alloc(), rt.stdout())?;
     let mut outcomes = replayed.outcomes.iter();
-    for (index, entry) in order.entries.iter().enumerate() {
-        if let Some(shape) = entry.expected() {
-            let line = index.saturating_add(2);
-            writeln!(output, "{}", Answer::Malformed(line, shape))?;
+    for (line, entry) in (2usize..).zip(&order.entries) {
+        if let Err(expected) = *entry {
+            writeln!(output, "{}", Malformed { line, expected })?;
         } else if let Some(outcome) = outcomes.next() {
-            writeln!(output, "{}", Answer::Outcome(*outcome))?;
+            writeln!(output, "{}", Told(*outcome))?;
         }
     }
-    writeln!(output, "{}", Answer::Card(replayed.card))?;
+    writeln!(output, "{}", Told(replayed.card))?;
     output.flush()
 }
 
-// Replays the order over two layers above the three-digit table.
-fn carry_out(rt: &HostRuntime, step: u8, order: &Order) -> anyhow::Result<()> {
-    let lower = Newton {
-        lower: ThreeDigitTable,
-    };
+// Replays the order over two layers above the three-digit table. An order of a step above four is not begun, and has one answer.
+fn carry_out(rt: &HostRuntime, order: &Order) -> anyhow::Result<()> {
     let calls = order.calls(rt.alloc())?;
     let room = Room::for_calls(rt.alloc(), calls.len())?;
-    match replay(&Newton { lower }, step, &calls, room) {
+    match replay(&TWO_LAYERS, order.step, &calls, room) {
         Ok(replayed) => Ok(tell_all(rt, order, &replayed)?),
-        Err(NotReplayed::Step(fault)) => tell(rt, Answer::Refused(fault)),
+        Err(NotReplayed::Step(fault)) => Ok(println!(rt; "{}", Told(fault))?),
         Err(NotReplayed::Room) => Err(anyhow!("there is no room for the calls")),
     }
 }
@@ -55,12 +43,13 @@ fn carry_out(rt: &HostRuntime, step: u8, order: &Order) -> anyhow::Result<()> {
 fn run(rt: &HostRuntime) -> anyhow::Result<()> {
     let mut text = Vec::new(rt.alloc());
     rt.stdin().read_to_end(&mut text)?;
-    let mut lines = Pieces::lines(&text);
-    let Some(step) = read_step(lines.next()) else {
-        return tell(rt, Answer::Malformed(1, Shape::Step));
-    };
-    let order = Order::read(rt.alloc(), lines)?;
-    carry_out(rt, step, &order)
+    match Order::read(rt.alloc(), &text)? {
+        Some(order) => carry_out(rt, &order),
+        None => {
+            let expected = Shape::Step;
+            Ok(println!(rt; "{}", Malformed { line: 1, expected })?)
+        }
+    }
 }
 
 fn main(rt: HostRuntime) -> anyhow::Result<()> {

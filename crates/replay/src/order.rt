@@ -1,155 +1,138 @@
 // The order that the lines of a text write.
-use crate::parts::{Part, read_number, read_pair};
-use crate::pieces::{Pieces, cut};
+use crate::records::{read_pair, read_round, read_words};
 use crate::shape::Shape;
 use accounts::Call;
 use runs::{Pair, Round};
 use std::alloc::{AllocError, Global};
+use text::read_number;
 
-/// A run: its mode, and where its records begin and end among those of all runs.
-#[derive(Clone, Copy)]
-pub struct Run {
+/// A run: the number of its mode, which is judged only where it is replayed, and its records.
+#[derive(Drop)]
+pub struct Run<R> {
     mode: u32,
-    start: usize,
-    end: usize,
+    records: Vec<R>,
 }
 
-/// A line: a call that is no run, a run of pairs, a run of rounds, or what it should have been.
-#[derive(Clone, Copy)]
+/// A line: a call that is no run, a run of pairs or a run of rounds.
+#[derive(Drop)]
 pub enum Entry {
     Call(Call<'static>),
-    Pairs(Run),
-    Rounds(Run),
-    Malformed(Shape),
+    Pairs(Run<Pair>),
+    Rounds(Run<Round>),
 }
 
-/// The lines behind the first, and the records of all their runs.
+/// The step of the first line, and each line behind it, or what that should have been.
 #[derive(Drop)]
 pub struct Order {
-    pub entries: Vec<Entry>,
-    pairs: Vec<Pair>,
-    rounds: Vec<Round>,
+    pub step: u8,
+    pub entries: Vec<Result<Entry, Shape>>,
 }
 
-/// The step of the first line. All steps that are too large for a byte are refused alike.
-pub(crate) fn read_step(line: Option<&[u8]>) -> Option<u8> {
-    let step = read_number(line?.strip_prefix(b"step ")?)?;
+// The step of the first line. Steps that are too large for a byte are refused as the largest byte is.
+fn read_step(line: &[u8]) -> Option<u8> {
+    let step = read_number(line.strip_prefix(b"step ")?)?;
     Some(u8::try_from(step).unwrap_or(u8::MAX))
 }
 
-// The draft of a number that counts from one; 0 is the number of none.
+// The number of a mode.
+fn read_mode(text: &[u8]) -> Option<u32> {
+    read_number(text)
+}
+
+// The draft of a number that counts from one. 0 is answered as any draft that is not open, so it is read as the last number of all: no
+// order has as many drafts, and an option in each call would say no more.
 fn read_draft(text: &[u8]) -> Option<usize> {
-    Some((read_number(text)? as usize).wrapping_sub(1))
+    let number = read_number(text)? as usize;
+    Some(number.checked_sub(1).unwrap_or(usize::MAX))
 }
 
-// The call of this shape, which is no run, that has these parts.
-fn read_call(shape: Shape, parts: Option<&[u8]>) -> Option<Call<'static>> {
-    match shape {
-        Shape::Mode => Some(Call::SetMode(read_number(parts?)?)),
-        Shape::Divide => Some(Call::Divide(read_pair(parts?, b' ')?)),
-        Shape::Begin => Some(Call::Begin(read_pair(parts?, b' ')?)),
-        Shape::Round => Some(Call::Round(read_draft(parts?)?)),
-        Shape::Post => Some(Call::Post(read_draft(parts?)?)),
-        Shape::Strike => Some(Call::StrikeOut(read_draft(parts?)?)),
-        Shape::Lower if parts.is_none() => Some(Call::Lower),
-        Shape::Clear if parts.is_none() => Some(Call::Clear),
-        _ => None,
-    }
+fn read_operands(text: &[u8]) -> Option<Pair> {
+    read_words(text, b' ')
 }
 
-// The run that has these parts. Its records are put behind those of the earlier runs.
-fn read_run<P: Part + Drop>(
+// The call of this name, which is no run, that has these parts.
+fn read_call(name: &[u8], parts: Option<&[u8]>) -> Result<Call<'static>, Shape> {
+    Ok(match name {
+        b"mode" => Call::SetMode(parts.and_then(read_mode).ok_or(Shape::Mode)?),
+        b"divide" => Call::Divide(parts.and_then(read_operands).ok_or(Shape::Divide)?),
+        b"begin" => Call::Begin(parts.and_then(read_operands).ok_or(Shape::Begin)?),
+        b"round" => Call::Round(parts.and_then(read_draft).ok_or(Shape::Round)?),
+        b"post" => Call::Post(parts.and_then(read_draft).ok_or(Shape::Post)?),
+        b"strike" => Call::StrikeOut(parts.and_then(read_draft).ok_or(Shape::Strike)?),
+        b"lower" => match parts {
+            None => Call::Lower,
+            Some(_) => return Err(Shape::Lower),
+        },
+        b"clear" => match parts {
+            None => Call::Clear,
+            Some(_) => return Err(Shape::Clear),
+        },
+        _ => return Err(Shape::AnyCall),
+    })
+}
+
+// The run that has these parts.
+fn read_run<R: Drop, F: FnMut(&[u8]) -> Option<R>>(
+    heap: Global,
     parts: Option<&[u8]>,
-    records: &mut Vec<P>,
-) -> Result<Option<Run>, AllocError> {
+    read_record: F,
+) -> Result<Option<Run<R>>, AllocError>
+    requires { (f : F) (x : _) → F.pre f x }
+{
     let Some(text) = parts else {
         return Ok(None);
     };
-    let (mode, texts) = cut(text, b' ');
-    let Some(mode) = read_number(mode) else {
+    let mut texts = text.split(|byte| *byte == b' ');
+    let Some(mode) = texts.next().and_then(read_mode) else {
         return Ok(None);
     };
-    let start = records.len();
-    for text in Pieces::of(texts, b' ') {
-        let Some(part) = P::read(text) else {
-            return Ok(None);
-        };
-        records.push(part)?;
-    }
-    let end = records.len();
-    Ok(Some(Run { mode, start, end }))
+    let records: Option<Vec<R>> = texts.map(read_record).collect(heap)?;
+    Ok(records.map(|records| Run { mode, records }))
 }
 
-impl Run {
-    // The run's records among those of all runs.
-    fn records<'a, P>(&self, all: &'a [P]) -> &'a [P] {
-        all.get(self.start..self.end).unwrap_or(&[])
-    }
+// A line behind the first.
+fn read_line(heap: Global, line: &[u8]) -> Result<Result<Entry, Shape>, AllocError> {
+    let mut halves = line.splitn(2, |byte| *byte == b' ');
+    let (name, parts) = (halves.next().unwrap_or(line), halves.next());
+    Ok(match name {
+        b"pairs" => read_run(heap, parts, read_pair)?
+            .map(Entry::Pairs)
+            .ok_or(Shape::Pairs),
+        b"rounds" => read_run(heap, parts, read_round)?
+            .map(Entry::Rounds)
+            .ok_or(Shape::Rounds),
+        _ => read_call(name, parts).map(Entry::Call),
+    })
 }
 
 impl Entry {
-    /// What a malformed line should have been.
-    pub(crate) fn expected(&self) -> Option<Shape> {
-        match *self {
-            Entry::Malformed(shape) => Some(shape),
-            _ => None,
+    // The call of a line.
+    fn call(&self) -> Call<'_> {
+        match self {
+            Entry::Call(call) => *call,
+            Entry::Pairs(run) => Call::RunPairs(run.mode, &run.records),
+            Entry::Rounds(run) => Call::RunRounds(run.mode, &run.records),
         }
     }
 }
 
 impl Order {
-    fn read_line(&mut self, line: &[u8]) -> Result<Entry, AllocError> {
-        let (name, parts) = cut(line, b' ');
-        let shape = Shape::named(name);
-        let entry = match shape {
-            Shape::Pairs => match read_run(parts, &mut self.pairs)? {
-                Some(run) => Entry::Pairs(run),
-                None => Entry::Malformed(shape),
-            },
-            Shape::Rounds => match read_run(parts, &mut self.rounds)? {
-                Some(run) => Entry::Rounds(run),
-                None => Entry::Malformed(shape),
-            },
-            _ => match read_call(shape, parts) {
-                Some(call) => Entry::Call(call),
-                None => Entry::Malformed(shape),
-            },
+    /// Reads every line. The last of them may end without a newline. There is no order behind a malformed first line.
+    pub(crate) fn read(heap: Global, text: &[u8]) -> Result<Option<Order>, AllocError> {
+        let text = text.strip_suffix(b"\n").unwrap_or(text);
+        let mut lines = text.split(|byte| *byte == b'\n');
+        let Some(step) = lines.next().and_then(read_step) else {
+            return Ok(None);
         };
-        Ok(entry)
-    }
-
-    /// Reads every line.
-    pub(crate) fn read(heap: Global, lines: Pieces) -> Result<Order, AllocError> {
-        let mut order = Order {
-            entries: Vec::new(heap),
-            pairs: Vec::new(heap),
-            rounds: Vec::new(heap),
-        };
-        for line in lines {
-            let entry = order.read_line(line)?;
-            order.entries.push(entry)?;
-        }
-        Ok(order)
-    }
-
-    // The call of a line, if it is one.
-    fn call(&self, entry: &Entry) -> Option<Call<'_>> {
-        match *entry {
-            Entry::Call(call) => Some(call),
-            Entry::Pairs(run) => Some(Call::RunPairs(run.mode, run.records(&self.pairs))),
-            Entry::Rounds(run) => Some(Call::RunRounds(run.mode, run.records(&self.rounds))),
-            Entry::Malformed(_) => None,
-        }
+        let entries = lines.map(|line| read_line(heap, line)).try_collect(heap)?;
+        Ok(Some(Order { step, entries }))
     }
 
     /// The calls, in the order of their lines.
     pub(crate) fn calls(&self, heap: Global) -> Result<Vec<Call<'_>>, AllocError> {
-        let mut calls = Vec::with_capacity(heap, self.entries.len())?;
-        for entry in self.entries.iter() {
-            if let Some(call) = self.call(entry) {
-                calls.push(call)?;
-            }
-        }
-        Ok(calls)
+        let entries = self.entries.iter();
+        entries
+            .filter_map(|entry| Some(entry.as_ref().ok()?.call()))
+            .collect(heap)
     }
 }

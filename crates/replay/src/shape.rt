@@ -18,25 +18,6 @@ pub enum Shape {
     AnyCall,
 }
 
-impl Shape {
-    /// The shape of the lines that begin with this name.
-    pub(crate) fn named(name: &[u8]) -> Shape {
-        match name {
-            b"mode" => Shape::Mode,
-            b"divide" => Shape::Divide,
-            b"begin" => Shape::Begin,
-            b"round" => Shape::Round,
-            b"post" => Shape::Post,
-            b"strike" => Shape::Strike,
-            b"pairs" => Shape::Pairs,
-            b"rounds" => Shape::Rounds,
-            b"lower" => Shape::Lower,
-            b"clear" => Shape::Clear,
-            _ => Shape::AnyCall,
-        }
-    }
-}
-
 impl fmt::Display for Shape {
     fn fmt<W: fmt::Write>(&self, f: &mut fmt::Formatter<W>) -> fmt::Result {
         match self {
