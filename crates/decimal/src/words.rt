@@ -1,4 +1,5 @@
-// The words of decimal32: any word read, any number written.
+// The words of decimal32: any word read, any number written. A word is a plain `u32`, so these are no `From`, which would say that 7 is the
+// number 7.
 ghost use Rattle.std.specs.Prelude.{◌≡◌, ◌<◌, true};
 ghost use Rattle.decimal.specs.Numbers.{datum};
 ghost use Rattle.decimal.specs.Words.{decimal32, number_of, word_of, canonical, sign_of, sign_bit, sign_field, declets_field, combination_of, declets_value, declets_of, exponent_lead, leading_digit, number_of_fields, word_of_fields};

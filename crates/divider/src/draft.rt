@@ -7,7 +7,8 @@ use std::marker::Model;
 /// A draft of a quotient: the dividend widened by zeros (A), the divisor brought to seven digits (D), and the biased quotient B that
 /// the reciprocal gave, with (B - 1) x D at most A and A below (B + 1) x D. The quotient is A / D x 10^(place - 205), and `ideal` is the ideal
 /// exponent and 101, or 0 if that is negative. A draft is ended by one finishing call, which sets `finished`: to let go of it otherwise
-/// is refused.
+/// is refused. The mark is no state to match on: it is there for the drop alone, which by a rule of the project asks that a finishing call
+/// took the draft.
 pub struct Draft {
     pub(crate) sign: Sign,
     pub(crate) widened: u64,

@@ -1,4 +1,5 @@
-// The quotient rounded to decimal32, once.
+// The quotient rounded to decimal32, once. A mode and a sign go side by side and not as one value: the caller sets the mode and the
+// quotient has the sign, so that a pair of them would be made for each call and taken apart in it.
 ghost use Rattle.std.specs.Prelude.{◌≡◌, ℕ, ◌+◌, ◌-◌, ◌^◌, ◌<◌, ◌≤◌, nat_lt};
 ghost use Rattle.rounding.specs.Flags.{no_flags};
 ghost use Rattle.quotient.specs.Drafts.{Cut, Drafted, InRange, Stripped};

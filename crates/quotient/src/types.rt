@@ -4,7 +4,7 @@ ghost use Rattle.std.specs.Prelude.{◌+◌, ◌<◌, ◌≤◌, if◌then◌els
 use rounding::{Flags, Position};
 
 /// The quotient (digits + f) x 10^(place - 205) for a fraction f of at least 0 and below 1, which is 0 exactly where nothing
-/// is left. It has eight digits, or is 0.
+/// is left. It has eight digits, or is 0. `left` guards no value, so it is no option: the digits stand either way.
 #[derive(Clone, Copy)]
 pub struct Leading {
     pub digits: u32,

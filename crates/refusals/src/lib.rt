@@ -35,7 +35,7 @@ pub enum Refusal {
     QuotientTooLarge = 16,
 }
 
-/// A refusal and its place: a record's index in a run, a column on a sheet, and 0 elsewhere.
+/// A refusal and its place: a record's index in a run, a column on a sheet, and 0, as an answer writes it, elsewhere.
 #[derive(Clone, Copy)]
 pub struct Fault {
     pub refusal: Refusal,
