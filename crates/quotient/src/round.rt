@@ -10,19 +10,20 @@ ghost use Rattle.quotient.specs.Quotients.{overflow as overflow_of};
 use crate::types::{Leading, Magnitude, Rounded};
 use rounding::{Flags, Mode, Sign};
 
-// Brings the exponent of an exact number up to the ideal one, as far as zeros at its end allow. The exponent is no index: it is
-// answered, and how far it goes is told by the digits.
+// Brings the exponent of an exact number up to the ideal one, as far as zeros at its end allow.
 fn strip(coefficient: u32, exponent: u16, ideal: u16) -> (u32, u16)
     requires { exponent ≤ 191 }
     ensures { Stripped 191 coefficient exponent ideal result.0 result.1 }
 {
+    let most = ideal.min(191);
     let mut c = coefficient;
-    let mut k = exponent;
-    while k < ideal && k < 191 && c % 10 == 0 {
+    for k in exponent..most {
+        if c % 10 != 0 {
+            return (c, k);
+        }
         c /= 10;
-        k += 1;
     }
-    (c, k)
+    (c, exponent.max(most))
 }
 
 // Does what is past the greatest number go to infinity?

@@ -9,4 +9,6 @@ step c k v e z =
     omega (arith, ap (λ x. x * 10 ^ k) a, ap (λ x. (c / 10) * x) b)
 
 pub loop-k-preserved : goal.loop-k-preserved
-loop-k-preserved c = (step c.loop-k.c c.loop-k.k _ c.loop-k.invariant.0 (omega arith), omega arith, omega arith, λ h. absurd (omega arith), omega arith)
+loop-k-preserved c =
+    let i = c.loop-k.invariant in
+    (step c.loop-k.c c.loop-k.k _ i.0 (omega arith), omega arith, omega (arith, c.loop-k-test.true), i.3, omega arith)
