@@ -1,4 +1,4 @@
-// The limits of a finite number, run.
+// The limits of a finite number, run. A refusal is looked at with its place.
 use crate::number::Finite;
 use refusals::{Fault, Refusal};
 use rounding::Sign;

@@ -12,7 +12,7 @@ use decimal::{Finite, Number};
 use quotient::{Leading, Magnitude};
 use rounding::{Mode, Sign};
 
-// The number of a magnitude and a sign.
+// The number of a magnitude and a sign. It is no `From`, since the magnitude has to be in range.
 fn number_of(sign: Sign, magnitude: Magnitude) -> Number
     requires { InRange magnitude }
     ensures { datum result ≡ signed_magnitude sign magnitude }
