@@ -24,16 +24,16 @@ fn is_to_nearest(mode: Mode) -> bool
     )
 }
 
-// A total and what is posted, on a card with so many postings.
-fn summed(total: i64, more: i64, posted: u32) -> i64
-    requires { (posted < 10000) × ((unsigned_abs total ≤ 10000000 * posted) × (unsigned_abs more ≤ 10000000)) }
-    ensures value { result ≡ total +ℤ more }
-    ensures small { unsigned_abs result ≤ 10000000 * (posted + 1) }
-{
-    total + more
-}
-
 impl Card {
+    // A total of the card and what is posted.
+    fn sum(self, total: i64, more: i64) -> i64
+        requires { (self.posted < 10000) × ((unsigned_abs total ≤ 10000000 * self.posted) × (unsigned_abs more ≤ 10000000)) }
+        ensures value { result ≡ total +ℤ more }
+        ensures small { unsigned_abs result ≤ 10000000 * (self.posted + 1) }
+    {
+        total + more
+    }
+
     // The card with one posting more.
     fn with(self, mode: Mode, steps: Steps) -> Card
         requires { self.posted < 10000 }
@@ -43,9 +43,9 @@ impl Card {
         let nearest = is_to_nearest(mode);
         Card {
             step: self.step,
-            low: summed(self.low, steps.rounded(Mode::Floor), self.posted),
-            figure: summed(self.figure, steps.rounded(mode), self.posted),
-            high: summed(self.high, steps.rounded(Mode::Ceiling), self.posted),
+            low: self.sum(self.low, steps.rounded(Mode::Floor)),
+            figure: self.sum(self.figure, steps.rounded(mode)),
+            high: self.sum(self.high, steps.rounded(Mode::Ceiling)),
             posted: self.posted + 1,
             near: self.near + u32::from(inexact & nearest),
             far: self.far + u32::from(inexact & !nearest),

@@ -52,7 +52,8 @@ fn read_exponent_lead(combination: u32) -> u32
     }
 }
 
-// The number of a word's fields.
+// The number of a word's fields. What reads and what writes them differ in the last, digits or declets, so that one struct of them would
+// serve neither.
 fn read_fields(sign: Sign, combination: u32, continuation: u32, digits: u32) -> Number
     requires { (combination < 32) × ((continuation < 64) × (digits < 1000000)) }
     ensures { datum result ≡ number_of_fields decimal32 sign combination continuation digits }

@@ -16,19 +16,16 @@ use rounding::Sign;
 pub(crate) fn multiply_signs(first: Sign, second: Sign) -> Sign
     ensures { result ≡ product_sign first second }
 {
-    match first {
-        Sign::Plus => second,
-        Sign::Minus => match second {
-            Sign::Plus => Sign::Minus,
-            Sign::Minus => Sign::Plus,
-        },
+    match (first, second) {
+        (Sign::Plus, Sign::Plus) | (Sign::Minus, Sign::Minus) => Sign::Plus,
+        (Sign::Plus, Sign::Minus) | (Sign::Minus, Sign::Plus) => Sign::Minus,
     }
 }
 
 // A dividend that was widened by zeros, and one more than its quotient by the reciprocal.
 #[derive(Clone, Copy)]
 struct Widened {
-    zeros: u16,
+    zeros: u32,
     dividend: u64,
     biased: u64,
 }
@@ -40,18 +37,11 @@ fn widen(dividend: u64, divisor: u64, reciprocal: u64) -> Widened
     ensures dividend { result.dividend ≡ dividend * 10 ^ widening dividend divisor }
     ensures biased { result.biased ≡ 1 + dividend * reciprocal / 10 ^ (17 - widening dividend divisor) }
 {
-    if dividend < divisor {
-        Widened {
-            zeros: 8,
-            dividend: dividend * 100_000_000,
-            biased: 1 + dividend * reciprocal / 1_000_000_000,
-        }
-    } else {
-        Widened {
-            zeros: 7,
-            dividend: dividend * 10_000_000,
-            biased: 1 + dividend * reciprocal / 10_000_000_000,
-        }
+    let zeros = if dividend < divisor { 8 } else { 7 };
+    Widened {
+        zeros,
+        dividend: dividend * 10_u64.pow(zeros),
+        biased: 1 + dividend * reciprocal / 10_u64.pow(17 - zeros),
     }
 }
 
@@ -63,7 +53,7 @@ fn assemble(sign: Sign, y: Normal, x: Normal, reciprocal: u64) -> Draft
 {
     let divisor = x.digits as u64;
     let widened = widen(y.digits as u64, divisor, reciprocal);
-    let place = y.exponent + x.zeros + 205 - y.zeros - widened.zeros;
+    let place = y.exponent + x.zeros + 205 - y.zeros - widened.zeros as u16;
     Draft {
         sign,
         widened: widened.dividend,

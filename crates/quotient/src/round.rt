@@ -30,10 +30,10 @@ fn strip(coefficient: u32, exponent: u16, ideal: u16) -> (u32, u16)
 fn goes_to_infinity(mode: Mode, sign: Sign) -> bool
     ensures { result ≡ to_infinity mode sign }
 {
-    match (mode, sign) {
-        (Mode::Ceiling, Sign::Minus) | (Mode::Floor, Sign::Plus) | (Mode::TowardZero, _) => false,
-        _ => true,
-    }
+    !matches!(
+        (mode, sign),
+        (Mode::Ceiling, Sign::Minus) | (Mode::Floor, Sign::Plus) | (Mode::TowardZero, _)
+    )
 }
 
 fn overflow(mode: Mode, sign: Sign) -> Rounded

@@ -28,7 +28,7 @@ pub trait Source {
 pub(crate) fn seven_digits(divisor: u32) -> Result<u64, Fault>
     ensures { result ≡ asked (λ d. d) divisor }
 {
-    if divisor < 1_000_000 || divisor > 9_999_999 {
+    if !(1_000_000..=9_999_999).contains(&divisor) {
         return Err(Refusal::DivisorNotSevenDigits.into());
     }
     Ok(divisor as u64)
