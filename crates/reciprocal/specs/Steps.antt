@@ -140,6 +140,11 @@ refines G D r g h lo hi k =
       fitting = record { product = omega (arith, m, z.all); one = z.one; kept = kept; room = omega (arith, fits l, z.room) };
     }
 
+-- the same where m, K and P are results of code
+pub computes : (G D r m K P : ℕ) → 1 ≤ G → G ≤ 6 → 1000000 ≤ D → D < 10000000 → Approximates G D r → m ≡ finer G
+    → K ≡ 10 ^ (G + 8 - (m + 2)) → P ≡ 10 ^ (m + 2) → Fitting D r K P
+computes G D r m K P g h lo hi k em eK eP = rw (eK, eP, em) (refines G D r g h lo hi k).fitting
+
 -- the first digits of an answer: E is ten to the count of the others, c the cut answer
 shorter : (E N D r c : ℕ) → 1 ≤ E → c * E ≤ r → r < c * E + E → r * D < E * N → 2 * (E * N) < 11 * D + 2 * (r * D)
     → (c * D < N) × (2 * N < 11 * D + 2 * (c * D))
