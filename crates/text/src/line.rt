@@ -6,8 +6,8 @@ use arrayvec::ArrayVec;
 use std::marker::Model;
 use std::mem;
 
-/// The first 33 bytes of a line tell every line of at most 32 bytes from the others.
-#[derive(Drop)]
+/// The first 33 bytes of a line tell every line of at most 32 bytes from the others. No `Copy`: an `ArrayVec` has none.
+#[derive(Clone, Drop)]
 pub struct Line {
     number: u64,
     text: ArrayVec<u8, 33>,
