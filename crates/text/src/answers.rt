@@ -55,8 +55,8 @@ pub fn answer_lines<R: Read, W: Write, A: Answers>(
 {
     let mut buffer = [0; 4096];
     let mut line = Line::first();
-    // What waits on input has to count, so that it ends. Over the library's iterator of a reader's bytes a run of `divide` takes two and a
-    // half times as many instructions.
+    // What waits on input has to count, so that it ends. The library's iterator of a reader's bytes misses the bar of speed, which is that
+    // `divide` takes no more instructions on its stored lines than it did: 37.2 million on 8,000 lines in place of 14.7.
     for _ in 0..u64::MAX {
         let count = input.read(&mut buffer)?;
         if count == 0 {
