@@ -22,7 +22,8 @@ fn run(rt: &HostRuntime) -> anyhow::Result<()> {
     let mut arguments = env::args(rt)?;
     let _program = arguments.next();
     let name = arguments.next();
-    // The sources have three types, so each name calls the generic function with its own.
+    // The sources have three types, so each name calls the generic function with its own. A `&dyn Source` is no plainer: these calls are
+    // made for each source and inlined, and a `dyn` would be called through a table at each line.
     match name.as_ref().map_or("three", |name| name.as_str()) {
         "three" => answer_all(rt, &TWO_LAYERS)?,
         // Four layers over the two-digit table claim nine digits.
