@@ -7,4 +7,4 @@ mod running;
 
 pub use divider::Pair;
 pub use records::{Record, Round};
-pub use running::{Ran, run};
+pub use running::{Ran, run, run_in_mode};

@@ -1,5 +1,5 @@
 // A run: records are begun and posted in turn, up to the first refusal.
-ghost use Rattle.std.specs.Prelude.{◌≡◌};
+ghost use Rattle.std.specs.Prelude.{◌≡◌, Ok};
 ghost use Rattle.rounding.specs.Modes.{mode_numbered};
 ghost use Rattle.card.specs.Replies.{Reply};
 ghost use Rattle.card.specs.Tallies.{Tally, tally};
@@ -34,27 +34,18 @@ fn post_record<R: Record, S: Source>(
     card.post(draft, setting)
 }
 
-/// Posts the records on the card in the mode of this number, from first to last, and stops at the first refusal, which is told with the
-/// record's index. The mode is a number since the run judges it, and does so first. The setting has its earlier mode again on every way out.
-pub fn run<R: Record, S: Source>(
+/// Posts the records on the card in this mode, from first to last, and stops at the first refusal, which is told with the record's index.
+/// The setting has its earlier mode again on every way out.
+pub fn run_in_mode<R: Record, S: Source>(
     card: &mut Card,
     setting: &mut Setting,
     source: &S,
-    mode: u32,
+    mode: Mode,
     records: &[R],
 ) -> Ran
-    ensures ran { ◌≡◌ {A = RunEnd Tally} (record { ran = result; state = tally card.new }) (run_in (mode_numbered mode) (record_posted (S.Source.claim source.now) R.Record.operands_or_fault) records.now (tally card.old)) }
+    ensures ran { ◌≡◌ {A = RunEnd Tally} (record { ran = result; state = tally card.new }) (run_in (Ok mode) (record_posted (S.Source.claim source.now) R.Record.operands_or_fault) records.now (tally card.old)) }
     ensures mode_restored { setting.new.mode ≡ setting.old.mode }
 {
-    let mode = match Mode::try_from(mode) {
-        Ok(mode) => mode,
-        Err(fault) => {
-            return Ran {
-                posted: 0,
-                fault: Some(fault),
-            };
-        }
-    };
     let guard = put_in_force(setting, mode);
     // A fault is told with the record's index.
     for (index, item) in records.iter().enumerate() {
@@ -71,5 +62,25 @@ pub fn run<R: Record, S: Source>(
     Ran {
         posted: records.len(),
         fault: None,
+    }
+}
+
+/// A run in the mode of this number, which the run judges first, also where there is no record: so it is no `Mode`.
+pub fn run<R: Record, S: Source>(
+    card: &mut Card,
+    setting: &mut Setting,
+    source: &S,
+    mode: u32,
+    records: &[R],
+) -> Ran
+    ensures ran { ◌≡◌ {A = RunEnd Tally} (record { ran = result; state = tally card.new }) (run_in (mode_numbered mode) (record_posted (S.Source.claim source.now) R.Record.operands_or_fault) records.now (tally card.old)) }
+    ensures mode_restored { setting.new.mode ≡ setting.old.mode }
+{
+    match Mode::try_from(mode) {
+        Ok(mode) => run_in_mode(card, setting, source, mode, records),
+        Err(fault) => Ran {
+            posted: 0,
+            fault: Some(fault),
+        },
     }
 }

@@ -1,7 +1,7 @@
 use Rattle.std.proofs.Common.{◌≡◌, drop}
 use Rattle.card.specs.Tallies.{tally}
 use Rattle.runs.specs.Runs.{record_posted, run_from}
-use Rattle.runs.proofs.running.run.Given as goal
+use Rattle.runs.proofs.running.run_in_mode.Given as goal
 
 -- what is left to run from the card gives what the whole run gives
 abbrev pub invariant-loop-index : goal.invariant-loop-index
