@@ -27,7 +27,8 @@ fn read_tenths(text: &[u8]) -> Option<u32> {
     read_number(whole)?.checked_mul(10)?.checked_add(tenth)
 }
 
-// The round that four fields give.
+// The round that four fields give. A run's rounds in `replay` have commas between, and their ratings are whole tenths: only the order of the
+// fields is shared.
 fn read_round(text: &[u8]) -> Option<Round> {
     let mut fields = text
         .split(|byte| matches!(byte, b' ' | b'\t'))

@@ -13,7 +13,8 @@ use std::io::{BufRead, BufReader, BufWriter, Write};
 use std::{env, io};
 use text::read_number;
 
-// Answers every line of the standard input, and then tells the season.
+// Answers every line of the standard input, and then tells the season. It is no `text::answer_lines`: a comment may be longer than a `Line`
+// keeps, and the season changes with each line.
 fn answer_all(rt: &HostRuntime, mut season: Season) -> io::Result<()> {
     let mut output = BufWriter::new(rt.alloc(), rt.stdout())?;
     let lines = BufReader::new(rt.alloc(), rt.stdin())?.split(rt.alloc(), b'\n');

@@ -11,7 +11,7 @@ use card::{Card, Setting};
 use reciprocal::Source;
 use refusals::Fault;
 use rounding::Mode;
-use runs::{Round, run};
+use runs::{Round, run_in_mode};
 
 /// The card of the season, which is in tenths, and the mode in which rounds are posted.
 #[derive(Drop)]
@@ -42,7 +42,7 @@ fn tell(fault: Option<Fault>, alone: &Card) -> Result<Added, Problem>
 }
 
 impl Season {
-    /// A season before its first round. Refuses a number that is no mode.
+    /// A season before its first round. The mode is a number since this judges it: it is typed, and gets refusal 9 if it is no mode.
     pub fn begin(mode: u32) -> Result<Season, Fault>
         ensures mode { result_map_both (λ s. s.setting.mode) (λ f. f) result ≡ mode_numbered mode }
         ensures card { IfOk result (λ s. tally s.card ≡ opened 1) }
@@ -60,10 +60,10 @@ impl Season {
         ensures after { tally self.new.card ≡ (round_run (S.Source.claim source.now) self.old.setting.mode round (tally self.old.card)).state }
         ensures mode { self.new.setting.mode ≡ self.old.setting.mode }
     {
-        let mode = u32::from(self.setting.mode);
+        let mode = self.setting.mode;
         let mut alone = open_card();
-        run(&mut alone, &mut self.setting, source, mode, &[round]);
-        let ran = run(&mut self.card, &mut self.setting, source, mode, &[round]);
+        run_in_mode(&mut alone, &mut self.setting, source, mode, &[round]);
+        let ran = run_in_mode(&mut self.card, &mut self.setting, source, mode, &[round]);
         tell(ran.fault, &alone)
     }
 

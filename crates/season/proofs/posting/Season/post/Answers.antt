@@ -3,4 +3,4 @@ use Rattle.std.proofs.Common.{ap}
 use Rattle.season.proofs.posting.Season.post.Goals as goal
 
 pub returns-clause-answer : goal.returns-clause-answer
-returns-clause-answer g c = search (c.tell.ensures, ap (λ e. e.ran.fault) c.run-ran.ensures.ran, ap (λ e. e.state) c.run.ensures.ran, c.from-mode.ensures, c.open_card-alone.ensures)
+returns-clause-answer g c = search (c.tell.ensures, ap (λ e. e.ran.fault) c.run_in_mode-ran.ensures.ran, ap (λ e. e.state) c.run_in_mode.ensures.ran, c.open_card-alone.ensures)
