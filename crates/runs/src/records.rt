@@ -1,6 +1,9 @@
 // Records, which tell a dividend and a divisor.
-ghost use Rattle.std.specs.Prelude.{◌≡◌, ◌*◌, ◌^◌, ◌<◌, ◌≤◌, pos, negsuc, ◌-ℤ◌, ◌≤ℤ◌, IsTrue, Ok, Result, unsigned_abs};
+ghost use Rattle.std.specs.Prelude.{◌≡◌, ◌*◌, ◌^◌, ◌<◌, ◌≤◌, pos, negsuc, ◌-ℤ◌, ◌≤ℤ◌, IfOk, None, Ok, Result, Some, if◌then◌else◌, unsigned_abs};
+ghost use Rattle.std.specs.Result.{result_err};
 ghost use Rattle.refusals.specs.declared.Fault.{Fault};
+ghost use Rattle.refusals.specs.declared.Refusal.TheVariants.{RoundOutOfRange};
+ghost use Rattle.refusals.specs.Refusals.{at_no_place};
 ghost use Rattle.decimal.specs.Numbers.{datum};
 ghost use Rattle.runs.specs.Records.{Operands, meant, pair_operands, round_in_range, round_judged, round_tenths, whole_datum};
 
@@ -13,7 +16,7 @@ use rounding::Sign;
 pub trait Record {
     ghost operands_or_fault: { Self → Result Operands Fault };
 
-    /// The dividend and the divisor.
+    /// The dividend and the divisor, in this order, as a tuple as the definition is: a struct of two numbers would be taken apart at each use.
     fn operands(&self) -> Result<(Number, Number), Fault>
         ensures { meant result ≡ operands_or_fault self.now };
 }
@@ -35,35 +38,45 @@ impl Record for Pair {
     }
 }
 
-impl Round {
-    // Is each part within its limits?
-    fn is_in_range(&self) -> bool
-        ensures value { result ≡ round_in_range self.now }
-        ensures slope { IsTrue result → self.now.slope ≤ 155 }
+// A round that was judged, and is in range.
+#[derive(Drop)]
+struct InRange {
+    round: Round,
+    ghost score: { (round.gross ≤ 399) × (round.rating ≤ 999) },
+    ghost adjustment: { (negsuc 0 ≤ℤ round.adjustment) × (round.adjustment ≤ℤ pos 3) },
+    ghost slope: { round.slope ≤ 155 },
+}
+
+impl InRange {
+    // The round, if each of its parts is within its limits.
+    fn of(round: Round) -> Result<InRange, Fault>
+        ensures refused { result_err result ≡ (if round_in_range round then None else Some (at_no_place RoundOutOfRange)) }
+        ensures same { IfOk result (λ judged. judged.round ≡ round) }
     {
-        (18..=399).contains(&self.gross)
-            && (300..=999).contains(&self.rating)
-            && (-1..=3).contains(&self.adjustment)
-            && (55..=155).contains(&self.slope)
+        let in_range = (18..=399).contains(&round.gross)
+            && (300..=999).contains(&round.rating)
+            && (-1..=3).contains(&round.adjustment)
+            && (55..=155).contains(&round.slope);
+        if !in_range {
+            return Err(Refusal::RoundOutOfRange.into());
+        }
+        Ok(InRange { round })
     }
 
     // The tenths of the score above the rating.
     fn above_rating(&self) -> i32
-        requires { (self.now.gross ≤ 399) × (self.now.rating ≤ 999) }
-        ensures value { result ≡ pos (10 * self.now.gross) -ℤ pos self.now.rating }
+        ensures value { result ≡ pos (10 * self.now.round.gross) -ℤ pos self.now.round.rating }
         ensures small { unsigned_abs result ≤ 3990 }
     {
-        10 * self.gross as i32 - self.rating as i32
+        10 * self.round.gross as i32 - self.round.rating as i32
     }
 
     // The tenths of the dividend.
     fn tenths(&self) -> i32
-        requires score { (self.now.gross ≤ 399) × (self.now.rating ≤ 999) }
-        requires adjustment { (negsuc 0 ≤ℤ self.now.adjustment) × (self.now.adjustment ≤ℤ pos 3) }
-        ensures value { result ≡ round_tenths self.now.gross self.now.rating self.now.adjustment }
+        ensures value { result ≡ round_tenths self.now.round.gross self.now.round.rating self.now.round.adjustment }
         ensures small { unsigned_abs result < 10 ^ 7 }
     {
-        113 * (self.above_rating() - 10 * self.adjustment)
+        113 * (self.above_rating() - 10 * self.round.adjustment)
     }
 }
 
@@ -84,12 +97,10 @@ impl Record for Round {
     ghost operands_or_fault = { λ r. round_judged r };
 
     fn operands(&self) -> Result<(Number, Number), Fault> {
-        if !self.is_in_range() {
-            return Err(Refusal::RoundOutOfRange.into());
-        }
+        let judged = InRange::of(*self)?;
         Ok((
-            whole_number(self.tenths(), -1),
-            whole_number(self.slope as i32, 0),
+            whole_number(judged.tenths(), -1),
+            whole_number(judged.round.slope as i32, 0),
         ))
     }
 }
