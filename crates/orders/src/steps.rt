@@ -29,9 +29,8 @@ impl Desk {
     fn take(&mut self, number: usize) -> Result<Draft, NotDone>
         ensures { Taken number self.old result self.new }
     {
-        let Some(place) = self.begun.get_mut(number) else {
-            return Err(NotDone::NoDraft);
-        };
+        // With `and_then(Option::take)` it is not proved what stays on the desk.
+        let place = self.begun.get_mut(number).ok_or(NotDone::NoDraft)?;
         place.take().ok_or(NotDone::NoDraft)
     }
 
