@@ -7,7 +7,7 @@ use refusals::Fault;
 use runs::{Pair, Ran, Round};
 
 /// One call. A draft goes by its number: the calls that begin one are numbered from 0, refused or not. A mode goes by its number too,
-/// since the call judges it.
+/// since the call judges it. An order has runs of both kinds of record, so each kind is a call: a parameter would give an order one kind.
 #[derive(Clone, Copy)]
 pub enum Call<'a> {
     SetMode(u32),
