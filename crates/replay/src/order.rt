@@ -34,7 +34,7 @@ fn read_step(line: &[u8]) -> Option<u8> {
     Some(u8::try_from(step).unwrap_or(u8::MAX))
 }
 
-// The number of a mode.
+// The number of a mode, under a name of this crate: a function of another crate that is handed on by its own name gets no proof.
 fn read_mode(text: &[u8]) -> Option<u32> {
     read_number(text)
 }
@@ -59,14 +59,8 @@ fn read_call(name: &[u8], parts: Option<&[u8]>) -> Result<Call<'static>, Shape> 
         b"round" => Call::Round(parts.and_then(read_draft).ok_or(Shape::Round)?),
         b"post" => Call::Post(parts.and_then(read_draft).ok_or(Shape::Post)?),
         b"strike" => Call::StrikeOut(parts.and_then(read_draft).ok_or(Shape::Strike)?),
-        b"lower" => match parts {
-            None => Call::Lower,
-            Some(_) => return Err(Shape::Lower),
-        },
-        b"clear" => match parts {
-            None => Call::Clear,
-            Some(_) => return Err(Shape::Clear),
-        },
+        b"lower" => parts.is_none().then_some(Call::Lower).ok_or(Shape::Lower)?,
+        b"clear" => parts.is_none().then_some(Call::Clear).ok_or(Shape::Clear)?,
         _ => return Err(Shape::AnyCall),
     })
 }

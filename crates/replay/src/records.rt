@@ -16,7 +16,7 @@ pub(crate) fn read_pair(text: &[u8]) -> Option<Pair> {
     read_words(text, b'/')
 }
 
-/// A golf round of a run.
+/// A golf round of a run. A line of `season` has blanks between its fields, and a point in its rating: only the order of the fields is shared.
 pub(crate) fn read_round(text: &[u8]) -> Option<Round> {
     let mut parts = text.splitn(4, |byte| *byte == b',');
     Some(Round {

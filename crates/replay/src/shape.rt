@@ -20,22 +20,21 @@ pub enum Shape {
 
 impl fmt::Display for Shape {
     fn fmt<W: fmt::Write>(&self, f: &mut fmt::Formatter<W>) -> fmt::Result {
-        match self {
-            Shape::Step => write!(f, "step N"),
-            Shape::Mode => write!(f, "mode N"),
-            Shape::Divide => write!(f, "divide WORD WORD"),
-            Shape::Begin => write!(f, "begin WORD WORD"),
-            Shape::Round => write!(f, "round K"),
-            Shape::Post => write!(f, "post K"),
-            Shape::Strike => write!(f, "strike K"),
-            Shape::Pairs => write!(f, "pairs MODE WORD/WORD ..."),
-            Shape::Rounds => write!(f, "rounds MODE GROSS,RATING,ADJUSTMENT,SLOPE ..."),
-            Shape::Lower => write!(f, "lower"),
-            Shape::Clear => write!(f, "clear"),
-            Shape::AnyCall => write!(
-                f,
+        f.write_str(match self {
+            Shape::Step => "step N",
+            Shape::Mode => "mode N",
+            Shape::Divide => "divide WORD WORD",
+            Shape::Begin => "begin WORD WORD",
+            Shape::Round => "round K",
+            Shape::Post => "post K",
+            Shape::Strike => "strike K",
+            Shape::Pairs => "pairs MODE WORD/WORD ...",
+            Shape::Rounds => "rounds MODE GROSS,RATING,ADJUSTMENT,SLOPE ...",
+            Shape::Lower => "lower",
+            Shape::Clear => "clear",
+            Shape::AnyCall => {
                 "mode, divide, begin, round, post, strike, pairs, rounds, lower or clear"
-            ),
-        }
+            },
+        })
     }
 }
