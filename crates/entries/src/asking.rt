@@ -32,8 +32,8 @@ fn exponent(field: &Field, number: Numeral) -> Result<i32, Fault>
     ensures least { IfOk result (λ e. negsuc 100 ≤ℤ e) }
     ensures most { IfOk result (λ e. e ≤ℤ pos 90) }
 {
-    let least_magnitude = if number.negative { 101 } else { 90 };
-    if number.magnitude > least_magnitude {
+    let greatest = if number.negative { 101 } else { 90 };
+    if number.magnitude > greatest {
         return Err(Fault {
             refusal: Refusal::ExponentOutOfRange,
             place: field.column,
