@@ -1,6 +1,6 @@
 -- A field of an entry line, and the number that it says. Assumes nothing.
-use Rattle.std.specs.Prelude.{ℕ, Bool, true, false, cond, List, [], ◌∷◌, length, drop, slice_index, Some, None, Option, Ok, Err, Result, ◌==◌}
-use Rattle.std.specs.Option.{option_map}
+use Rattle.std.specs.Prelude.{ℕ, Bool, true, false, cond, List, [], ◌∷◌, length, drop, slice_index, Option, Ok, Err, Result, ◌==◌}
+use Rattle.std.specs.Option.{option_map, ok_or}
 use Rattle.refusals.specs.declared.Fault.{Fault}
 use Rattle.refusals.specs.declared.Refusal.{Refusal}
 use Rattle.refusals.specs.declared.Refusal.TheVariants.{NotANumber}
@@ -25,13 +25,9 @@ numeral_in bs =
     cond (slice_index bs 0 == 45) (option_map (λ n. record { negative = true; magnitude = n }) (number_in (drop 1 bs)))
     (option_map (λ n. record { negative = false; magnitude = n }) (number_in bs))
 
-abbrev pub or_refused : {X : Type 0} → ℕ → Option X → Result X Fault
-or_refused c None = Err (at_column c NotANumber)
-or_refused c (Some x) = Ok x
-
 -- what a field says: a number to the right of blanks
 abbrev pub said : ℕ → List ℕ → Result Numeral Fault
-said c bs = or_refused c (numeral_in (behind_blanks bs))
+said c bs = ok_or (numeral_in (behind_blanks bs)) (at_column c NotANumber)
 
 -- a field that is not used is blank
 abbrev pub unused : ℕ → List ℕ → Result (Unit {0}) Fault
