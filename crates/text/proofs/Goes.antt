@@ -1,9 +1,8 @@
 -- What is known of a line, as a text goes on. Assumes nothing.
-use Rattle.std.proofs.Common.{◌≡◌, ◌↔◌, ℕ, ◌+◌, ◌-◌, ◌^◌, ◌<◌, min, eqb, List, [], ◌∷◌, ◌++◌, length, take, Result, Ok, Err, IsOk, OnOk, OnErr, sym, refl, ap, ◌∙◌, inl, inr, arith, length-append}
-use Rattle.std.proofs.lemmas.List.{take_all, length-take-le, take-append-le}
+use Rattle.std.proofs.Common.{◌≡◌, ℕ, ◌+◌, ◌-◌, ◌^◌, ◌<◌, ◌≤◌, min, eqb, List, [], ◌∷◌, ◌++◌, length, take, drop, set, replicate, sym, ap, ◌∙◌, inl, inr, arith, length-append}
+use Rattle.std.proofs.lemmas.List.{take_all, length-take-le, take-append-le, take_more_set, drop-set-lt, drop-drop, drop-replicate}
 use Rattle.std.proofs.lemmas.List.Sums.{fold_push}
 use Rattle.std.proofs.lemmas.Bool.{cases_lt, cases_Bool, cond-true, cond-false}
-use Rattle.arrayvec.specs.ArrayVec.{ArrayVec}
 use Rattle.text.specs.Lines.{Split, and_byte, lines_of, Known, next_known, known_with, known_after, known_in}
 
 -- a byte behind the first 33 does not matter
@@ -16,11 +15,24 @@ kept xs b =
           take-append-le 33 (take 33 xs) (b ∷ []) (omega arith) ∙ take_all 33 (take 33 xs) (omega arith) ∙ sym (take-append-le 33 xs (b ∷ []) h)
     ]
 
--- a byte is kept where there is room
-pub pushed : {U E : Type 0} (r : Result U E) (t u : ArrayVec ℕ) (b : ℕ) → IsOk r ↔ (length t.items < 33) → OnOk r (u.items ≡ t.items ++ (b ∷ [])) → OnErr r (length t.items ≡ 33) → OnErr r (u ≡ t)
-    → u.items ≡ take 33 (t.items ++ (b ∷ []))
-pushed (Ok o) t u b v k f e = let h : length t.items < 33 = v.0 refl in k ∙ sym (take_all 33 (t.items ++ (b ∷ [])) (rw length-append (omega arith)))
-pushed (Err o) t u b v k f e = ap (λ a. a.items) e ∙ sym (take-append-le 33 t.items (b ∷ []) (omega arith) ∙ take_all 33 t.items (omega arith))
+-- a line that has room, and one that has none
+pub grown : (xs : List ℕ) (n b : ℕ) → n < 33 → length xs ≡ 33 → take (n + 1) (set xs n b) ≡ take 33 (take n xs ++ (b ∷ []))
+grown xs n b h l =
+    let room : n < length xs = omega arith in
+    let some : n ≤ length xs = omega arith in
+    let e : length (take n xs ++ (b ∷ [])) ≡ n + 1 = length-append (take n xs) (b ∷ []) ∙ ap (λ k. k + 1) (length-take-le n xs some) in
+    take_more_set xs n b room ∙ sym (take_all 33 (take n xs ++ (b ∷ [])) (omega arith))
+
+pub full : (xs : List ℕ) (n b : ℕ) → n ≡ 33 → length xs ≡ 33 → take n xs ≡ take 33 (take n xs ++ (b ∷ []))
+full xs n b e l =
+    let some : n ≤ length xs = omega arith in
+    let k : length (take n xs) ≡ n = length-take-le n xs some in
+    sym (take-append-le 33 (take n xs) (b ∷ []) (omega arith) ∙ take_all 33 (take n xs) (omega arith))
+
+-- the zeros behind a line that has grown
+pub zeros_behind : (xs : List ℕ) (n b : ℕ) → drop n xs ≡ replicate (33 - n) 0 → drop (n + 1) (set xs n b) ≡ replicate (33 - (n + 1)) 0
+zeros_behind xs n b z =
+    drop-set-lt (n + 1) xs n b (omega arith) ∙ sym (drop-drop 1 n xs) ∙ ap (drop 1) z ∙ drop-replicate 1 (33 - n) 0 ∙ ap (λ k. replicate k 0) (omega arith)
 
 same_step : (s : Split) (b : ℕ) → known_after (known_in s) b ≡ known_in (and_byte s b)
 same_step s b =

@@ -1,16 +1,16 @@
 // One line of a text, in a fixed room: its number, from one, and as much of its bytes as any use of it needs.
-ghost use Rattle.std.specs.Prelude.{◌≡◌, ℕ, List, [], ◌∷◌, ◌++◌, if◌then◌else◌, Some, None, nat_eq};
+ghost use Rattle.std.specs.Prelude.{◌≡◌, ℕ, ◌≤◌, List, [], ◌∷◌, ◌++◌, length, if◌then◌else◌, Some, None, nat_eq};
 ghost use Rattle.text.specs.Lines.{first_known, next_known, known_with, known_after, known_in, lines_of};
 
-use arrayvec::ArrayVec;
 use std::marker::Model;
 use std::mem;
 
-/// The first 33 bytes of a line tell every line of at most 32 bytes from the others. No `Copy`: an `ArrayVec` has none.
-#[derive(Clone, Drop)]
+/// The first 33 bytes of a line tell every line of at most 32 bytes from the others. An array with a length, since an `ArrayVec` has no `Copy`.
+#[derive(Clone, Copy)]
 pub struct Line {
     number: u64,
-    text: ArrayVec<u8, 33>,
+    bytes: [u8; 33],
+    len: usize,
 }
 
 impl Model for Line {
@@ -18,7 +18,15 @@ impl Model for Line {
 
     ghost Value = { Known };
 
-    ghost view = { λ l. record { number = l.number; text = l.text.items } };
+    ghost use Rattle.text.specs.Kept.{known, Padded, line_of, line_back};
+
+    ghost view = { known };
+
+    ghost invariant = { Padded };
+
+    ghost inverse = { line_of };
+
+    ghost inverse_ok = { line_back };
 }
 
 impl Line {
@@ -29,7 +37,8 @@ impl Line {
     {
         Line {
             number: 1,
-            text: ArrayVec::new(),
+            bytes: [0; 33],
+            len: 0,
         }
     }
 
@@ -39,7 +48,8 @@ impl Line {
     {
         Line {
             number: self.number.saturating_add(1),
-            text: ArrayVec::new(),
+            bytes: [0; 33],
+            len: 0,
         }
     }
 
@@ -47,7 +57,10 @@ impl Line {
     fn push(&mut self, byte: u8)
         ensures { self.new ≡ known_with self.old byte }
     {
-        let _ = self.text.try_push(byte);
+        if self.len < 33 {
+            self.bytes[self.len] = byte;
+            self.len += 1;
+        }
     }
 
     /// The text goes on with `byte`. Where that ends the line, the line comes back and the next one begins.
@@ -64,17 +77,19 @@ impl Line {
         None
     }
 
-    /// The line's number.
+    /// The line's number. That 33 bytes are kept at most is told with it.
     pub fn number(&self) -> u64
-        ensures { result ≡ self.now.number }
+        ensures value { result ≡ self.now.number }
+        ensures short { length self.now.text ≤ 33 }
     {
         self.number
     }
 
-    /// The line's first 33 bytes.
+    /// The line's first 33 bytes, and that these are 33 at most.
     pub fn text(&self) -> &[u8]
-        ensures { result.now ≡ self.now.text }
+        ensures value { result.now ≡ self.now.text }
+        ensures short { length self.now.text ≤ 33 }
     {
-        self.text.as_slice()
+        &self.bytes[..self.len]
     }
 }
