@@ -7,7 +7,7 @@ abbrev pub held : Inside → Begun
 held d = record { sign = d.sign; widened = d.widened; divisor = d.divisor; biased = d.biased; place = d.place; ideal = d.ideal; finished = d.finished }
 
 -- the biased quotient is the quotient or one more; the divisor has seven digits, and the quotient eight, or it is 0
-pub record Keeps (d : Inside) : Type 0 where
+pub record Keeps (d : Begun) : Type 0 where
   pub some : 0 < d.biased
   pub under : d.biased * d.divisor ≤ d.widened + d.divisor
   pub over : d.widened < d.biased * d.divisor + d.divisor

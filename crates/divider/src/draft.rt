@@ -28,7 +28,7 @@ impl Model for Draft {
 
     ghost view = { held };
 
-    ghost invariant = { Keeps };
+    ghost invariant = { λ d. Keeps (held d) };
 }
 
 impl Drop for Draft {

@@ -5,6 +5,7 @@ ghost use Rattle.quotient.specs.Drafts.{InRange};
 ghost use Rattle.quotient.specs.Quotients.{decimal32, divided};
 ghost use Rattle.divider.specs.Divisions.{outcome, signed_magnitude, under_sign};
 ghost use Rattle.divider.specs.Drafts.{StandsFor};
+ghost use Rattle.divider.specs.Held.{Keeps};
 
 use crate::draft::Draft;
 use crate::outcome::Quotient;
@@ -32,9 +33,10 @@ fn number_of(sign: Sign, magnitude: Magnitude) -> Number
 
 impl Draft {
     /// The quotient of the widened dividend by the divisor, without its fraction: the biased quotient, or one less where that is too
-    /// large.
+    /// large. What every draft keeps is told with it.
     pub fn corrected(&self) -> u64
-        ensures { result ≡ self.now.widened / self.now.divisor }
+        ensures value { result ≡ self.now.widened / self.now.divisor }
+        ensures kept { Keeps self.now }
     {
         if self.biased * self.divisor > self.widened {
             self.biased - 1
@@ -43,9 +45,10 @@ impl Draft {
         }
     }
 
-    /// Is anything left beside the corrected quotient?
+    /// Is anything left beside the corrected quotient? What every draft keeps is told here too.
     pub fn leaves_remainder(&self) -> bool
-        ensures { result ≡ nat_lt 0 (self.now.widened % self.now.divisor) }
+        ensures value { result ≡ nat_lt 0 (self.now.widened % self.now.divisor) }
+        ensures kept { Keeps self.now }
     {
         self.corrected() * self.divisor < self.widened
     }
