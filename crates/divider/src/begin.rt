@@ -37,11 +37,20 @@ fn widen(dividend: u64, divisor: u64, reciprocal: u64) -> Widened
     ensures dividend { result.dividend ≡ dividend * 10 ^ widening dividend divisor }
     ensures biased { result.biased ≡ 1 + dividend * reciprocal / 10 ^ (17 - widening dividend divisor) }
 {
-    let zeros = if dividend < divisor { 8 } else { 7 };
-    Widened {
-        zeros,
-        dividend: dividend * 10_u64.pow(zeros),
-        biased: 1 + dividend * reciprocal / 10_u64.pow(17 - zeros),
+    // Each power stands as a number: a division by a power that is computed misses the bar of speed, by 1.8 million instructions of `divide`
+    // on its stored lines.
+    if dividend < divisor {
+        Widened {
+            zeros: 8,
+            dividend: dividend * 100_000_000,
+            biased: 1 + dividend * reciprocal / 1_000_000_000,
+        }
+    } else {
+        Widened {
+            zeros: 7,
+            dividend: dividend * 10_000_000,
+            biased: 1 + dividend * reciprocal / 10_000_000_000,
+        }
     }
 }
 

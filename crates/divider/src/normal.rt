@@ -16,16 +16,33 @@ pub(crate) struct Normal {
     ghost far: { exponent ≤ 191 },
 }
 
+// A coefficient with zeros behind it, to seven digits, and how many zeros; a zero stays zero. Each power stands as a number, since a logarithm
+// and a power take longer.
+fn scale(coefficient: u32) -> (u32, u16)
+    requires { coefficient < 10000000 }
+    ensures { Scaled coefficient result.0 result.1 }
+{
+    match coefficient {
+        0..=9 => (1_000_000 * coefficient, 6),
+        10..=99 => (100_000 * coefficient, 5),
+        100..=999 => (10_000 * coefficient, 4),
+        1_000..=9_999 => (1_000 * coefficient, 3),
+        10_000..=99_999 => (100 * coefficient, 2),
+        100_000..=999_999 => (10 * coefficient, 1),
+        _ => (coefficient, 0),
+    }
+}
+
 impl Normal {
     // A number with zeros behind its coefficient.
     pub(crate) fn of(number: Finite) -> Normal
         ensures scaled { Scaled number.coefficient result.digits result.zeros }
         ensures exponent { result.exponent ≡ counted number.exponent }
     {
-        let zeros = 6 - number.coefficient.max(1).ilog10();
+        let (digits, zeros) = scale(number.coefficient);
         Normal {
-            digits: number.coefficient * 10_u32.pow(zeros),
-            zeros: zeros as u16,
+            digits,
+            zeros,
             exponent: (number.exponent + 101) as u16,
         }
     }

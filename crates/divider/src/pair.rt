@@ -15,6 +15,7 @@ pub struct Pair {
 impl Pair {
     /// The dividend and the divisor, as the numbers that their words stand for. Two numbers are a tuple, dividend first: each use takes them
     /// apart, so that a struct of them would say no more.
+    #[inline(always)]
     pub fn numbers(self) -> (Number, Number)
         ensures dividend { datum result.0 ≡ number_of decimal32 self.dividend }
         ensures divisor { datum result.1 ≡ number_of decimal32 self.divisor }

@@ -1,28 +1,23 @@
--- The unit is ten at least and a thousand million at most.
+-- The unit is ten at least, and what is left is the remainder.
 -- Assumes nothing.
-use Rattle.std.proofs.Common.{◌≡◌, ℕ, ◌^◌, ◌≤◌, min, sym, subst, mod-lt, rules, arith}
-use Rattle.quotient.proofs.Exponent.{tens_least}
+use Rattle.std.proofs.Common.{◌%◌, ◌<◌, sym, subst, ap, ◌∙◌, mod-lt, arith}
+use Rattle.std.proofs.Math.Nat.{mod-eq-sub-div-mul}
+use Rattle.quotient.specs.Drafts.{sticky}
 use Rattle.quotient.proofs.Ways.{floor_small}
 use Rattle.quotient.proofs.types.Leading.cut.Goals as goal
 
-unit_is : (gone m u : ℕ) → 1 ≤ gone → m ≡ min gone 9 → u ≡ 10 ^ m → (10 ≤ u) × (u ≤ 1000000000)
-unit_is gone m u h e f =
-    let one : 1 ≤ m = omega arith in
-    let nine : m ≤ 9 = omega arith in
-    (subst (λ x. 10 ≤ x) (sym f) (tens_least 1 m one), subst (λ x. x ≤ 1000000000) (sym f) (tens_least m 9 nine))
-
-pub nonzero_div-result : goal.nonzero_div-result
-nonzero_div-result c = omega (arith, unit_is c.args.gone _ c.pow-unit.result c.requires (search rules) c.pow-unit.ensures)
-
-pub nonzero_rem-self : goal.nonzero_rem-self
-nonzero_rem-self c = omega (arith, unit_is c.args.gone _ c.pow-unit.result c.requires (search rules) c.pow-unit.ensures)
-
 pub locate-requires : goal.locate-requires
 locate-requires c =
-    let u = unit_is c.args.gone _ c.pow-unit.result c.requires (search rules) c.pow-unit.ensures in
-    (mod-lt _ (omega (arith, u)), u.1)
+    let u = c.unit_of-unit in
+    (subst (λ r. r < u.result) (mod-eq-sub-div-mul c.args.self.digits u.result) (mod-lt _ (omega (arith, u.ensures.least))), u.ensures.most)
 
 pub invariant_of-result : goal.invariant_of-result
-invariant_of-result c =
-    let u = unit_is c.args.gone _ c.pow-unit.result c.requires (search rules) c.pow-unit.ensures in
-    record { small = floor_small c.args.self.digits c.pow-unit.result 10000000 (omega (arith, c.args.self.most)) u.0 }
+invariant_of-result c = record { small = floor_small c.args.self.digits c.unit_of-unit.result 10000000 (omega (arith, c.args.self.most)) c.unit_of-unit.ensures.least }
+
+pub returns-clause-position : goal.returns-clause-position
+returns-clause-position c =
+    let l = c.args.self in
+    let u = c.unit_of-unit in
+    c.locate.ensures
+    ∙ ap (λ r. sticky r u.result l.left) (sym (mod-eq-sub-div-mul l.digits u.result))
+    ∙ (λ i. sticky (l.digits % u.ensures.value i) (u.ensures.value i) l.left)
