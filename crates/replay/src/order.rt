@@ -6,26 +6,30 @@ use runs::{Pair, Round};
 use std::alloc::{AllocError, Global};
 use text::read_number;
 
-/// A run: the number of its mode, which is judged only where it is replayed, and its records.
-#[derive(Drop)]
-pub struct Run<R> {
+/// A run: the number of its mode, which is judged only where it is replayed, and where its records begin and end among those of all runs. A
+/// list of its own for each run would take a third more memory on an order of short runs.
+#[derive(Clone, Copy)]
+pub struct Run {
     mode: u32,
-    records: Vec<R>,
+    start: usize,
+    end: usize,
 }
 
 /// A line: a call that is no run, a run of pairs or a run of rounds.
-#[derive(Drop)]
+#[derive(Clone, Copy)]
 pub enum Entry {
     Call(Call<'static>),
-    Pairs(Run<Pair>),
-    Rounds(Run<Round>),
+    Pairs(Run),
+    Rounds(Run),
 }
 
-/// The step of the first line, and each line behind it, or what that should have been.
+/// The step of the first line, each line behind it, or what that should have been, and the records of all runs.
 #[derive(Drop)]
 pub struct Order {
     pub step: u8,
     pub entries: Vec<Result<Entry, Shape>>,
+    pairs: Vec<Pair>,
+    rounds: Vec<Round>,
 }
 
 // The step of the first line. Steps that are too large for a byte are refused as the largest byte is.
@@ -65,12 +69,12 @@ fn read_call(name: &[u8], parts: Option<&[u8]>) -> Result<Call<'static>, Shape> 
     })
 }
 
-// The run that has these parts.
+// The run that has these parts. Its records are put behind those of the earlier runs, and taken off again where one of them is malformed.
 fn read_run<R: Drop, F: FnMut(&[u8]) -> Option<R>>(
-    heap: Global,
+    records: &mut Vec<R>,
     parts: Option<&[u8]>,
-    read_record: F,
-) -> Result<Option<Run<R>>, AllocError>
+    mut read_record: F,
+) -> Result<Option<Run>, AllocError>
     requires { (f : F) (x : _) → F.pre f x }
 {
     let Some(text) = parts else {
@@ -80,37 +84,41 @@ fn read_run<R: Drop, F: FnMut(&[u8]) -> Option<R>>(
     let Some(mode) = texts.next().and_then(read_mode) else {
         return Ok(None);
     };
-    let records: Option<Vec<R>> = texts.map(read_record).collect(heap)?;
-    Ok(records.map(|records| Run { mode, records }))
+    let start = records.len();
+    for text in texts {
+        let Some(record) = read_record(text) else {
+            records.truncate(start);
+            return Ok(None);
+        };
+        records.push(record)?;
+    }
+    let end = records.len();
+    Ok(Some(Run { mode, start, end }))
 }
 
-// A line behind the first.
-fn read_line(heap: Global, line: &[u8]) -> Result<Result<Entry, Shape>, AllocError> {
-    let mut halves = line.splitn(2, |byte| *byte == b' ');
-    let (name, parts) = (halves.next().unwrap_or(line), halves.next());
-    Ok(match name {
-        b"pairs" => read_run(heap, parts, read_pair)?
-            .map(Entry::Pairs)
-            .ok_or(Shape::Pairs),
-        b"rounds" => read_run(heap, parts, read_round)?
-            .map(Entry::Rounds)
-            .ok_or(Shape::Rounds),
-        _ => read_call(name, parts).map(Entry::Call),
-    })
-}
-
-impl Entry {
-    // The call of a line.
-    fn call(&self) -> Call<'_> {
-        match self {
-            Entry::Call(call) => *call,
-            Entry::Pairs(run) => Call::RunPairs(run.mode, &run.records),
-            Entry::Rounds(run) => Call::RunRounds(run.mode, &run.records),
-        }
+impl Run {
+    // The run's records among those of all runs.
+    fn records<'a, R>(&self, all: &'a [R]) -> &'a [R] {
+        all.get(self.start..self.end).unwrap_or(&[])
     }
 }
 
 impl Order {
+    // A line behind the first.
+    fn read_line(&mut self, line: &[u8]) -> Result<Result<Entry, Shape>, AllocError> {
+        let mut halves = line.splitn(2, |byte| *byte == b' ');
+        let (name, parts) = (halves.next().unwrap_or(line), halves.next());
+        Ok(match name {
+            b"pairs" => read_run(&mut self.pairs, parts, read_pair)?
+                .map(Entry::Pairs)
+                .ok_or(Shape::Pairs),
+            b"rounds" => read_run(&mut self.rounds, parts, read_round)?
+                .map(Entry::Rounds)
+                .ok_or(Shape::Rounds),
+            _ => read_call(name, parts).map(Entry::Call),
+        })
+    }
+
     /// Reads every line. The last of them may end without a newline. There is no order behind a malformed first line.
     pub(crate) fn read(heap: Global, text: &[u8]) -> Result<Option<Order>, AllocError> {
         let text = text.strip_suffix(b"\n").unwrap_or(text);
@@ -118,15 +126,33 @@ impl Order {
         let Some(step) = lines.next().and_then(read_step) else {
             return Ok(None);
         };
-        let entries = lines.map(|line| read_line(heap, line)).try_collect(heap)?;
-        Ok(Some(Order { step, entries }))
+        let mut order = Order {
+            step,
+            entries: Vec::new(heap),
+            pairs: Vec::new(heap),
+            rounds: Vec::new(heap),
+        };
+        for line in lines {
+            let entry = order.read_line(line)?;
+            order.entries.push(entry)?;
+        }
+        Ok(Some(order))
+    }
+
+    // The call of a line.
+    fn call(&self, entry: Entry) -> Call<'_> {
+        match entry {
+            Entry::Call(call) => call,
+            Entry::Pairs(run) => Call::RunPairs(run.mode, run.records(&self.pairs)),
+            Entry::Rounds(run) => Call::RunRounds(run.mode, run.records(&self.rounds)),
+        }
     }
 
     /// The calls, in the order of their lines.
     pub(crate) fn calls(&self, heap: Global) -> Result<Vec<Call<'_>>, AllocError> {
+        let mut calls = Vec::with_capacity(heap, self.entries.len())?;
         let entries = self.entries.iter();
-        entries
-            .filter_map(|entry| Some(entry.as_ref().ok()?.call()))
-            .collect(heap)
+        calls.extend(entries.filter_map(|entry| Some(self.call((*entry).ok()?))))?;
+        Ok(calls)
     }
 }
