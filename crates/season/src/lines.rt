@@ -8,8 +8,12 @@ pub struct Malformed;
 
 // A line without the blanks, tabs and carriage returns at its ends.
 fn without_margins(line: &[u8]) -> &[u8] {
+    // One loop for each end: one for both looks at the left end again at each byte of the right, in half as much time again.
     let mut text = line;
-    while let [b' ' | b'\t' | b'\r', inner @ ..] | [inner @ .., b' ' | b'\t' | b'\r'] = text {
+    while let [b' ' | b'\t' | b'\r', inner @ ..] = text {
+        text = inner;
+    }
+    while let [inner @ .., b' ' | b'\t' | b'\r'] = text {
         text = inner;
     }
     text
