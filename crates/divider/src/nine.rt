@@ -11,7 +11,7 @@ use refusals::{Fault, Refusal};
 /// A source of reciprocals that claims nine.
 #[derive(Drop)]
 pub(crate) struct NineDigits<'a, S: Source> {
-    source: &'a S,
+    pub(crate) source: &'a S,
     ghost nine: { S.Source.claim source.now ≡ 9 },
 }
 
